@@ -1,13 +1,13 @@
 -- What was so amid rounds is so amid more of them.
-use Rattle.std.proofs.Common.{◌≡◌, ◌≢◌, ℕ, List, Option, Some, refl, sym, subst, ap, ◌∙◌, inl, inr, ⊎_elim, arith}
+use Rattle.std.proofs.Common.{◌≡◌, ◌≢◌, ℕ, List, Option, Some, refl, sym, subst, ◌∙◌, inl, inr, ⊎_elim, arith}
 use Rattle.std.proofs.Math.Nat.{le_trans}
 use Rattle.transport.specs.declared.counts.Counts.{Counts}
 use Rattle.group_queue.specs.Ports.{GroupId}
 use Rattle.broker_groups.specs.Answers.{Sights}
 use Rattle.shared_supply.specs.declared.wakes.Wakes.{Wakes}
 use Rattle.worker_connections.specs.Members.{HasTaker, TakesIn}
-use Rattle.worker_connections.specs.Serving.{ConnectionsState, GoesBy, Rounds, StaysOf, round_of, with_wakes}
-use Rattle.broker_worker.specs.Offering.{Amid, IsAsked, IsOffered, Offers, OffersEach, OffersInSweep}
+use Rattle.worker_connections.specs.Serving.{ConnectionsState, GoesBy, Rounds, round_of, with_wakes}
+use Rattle.broker_worker.specs.Offering.{Amid, IsAsked, IsOffered, Offers, OffersEach}
 use Rattle.conn_service.specs.declared.served.Direction.TheVariants.{Outbound}
 use Rattle.conn_service.specs.declared.served.Round.{Round}
 use Rattle.conn_service.specs.declared.served.Round.TheVariants.{Writing}
@@ -79,10 +79,3 @@ module _ {T : Type 0} (group : ℕ → GroupId) (seen : Sights) (counts : T → 
   pub offers_each : (older old new newer : ConnectionsState T) → Rounds older old → OffersEach group seen counts given accepted old new → Rounds new newer
       → OffersEach group seen counts given accepted older newer
   offers_each older old new newer one each two slot few = wider (Offers group seen counts given accepted slot) older old new newer one (each slot few) two
-
-  -- and so in a turn, in which others were heard before, and nothing changes after
-  pub in_turn : (old mid mid' new : ConnectionsState T) → mid.sweeps.begun ≡ old.sweeps.begun → StaysOf old mid → OffersInSweep group seen counts given accepted mid mid' → new ≡ mid'
-      → OffersInSweep group seen counts given accepted old new
-  in_turn old mid mid' new begun stays (inl same) is = inl (ap (λ (c : ConnectionsState T). c.sweeps.begun) is ∙ same ∙ begun)
-  in_turn old mid mid' new begun stays (inr some) is =
-      inr (some.0, some.1 ∙ stays, subst (λ (c : ConnectionsState T). OffersEach group seen counts given accepted some.0 c) (sym is) some.2)

@@ -169,29 +169,28 @@ impl<
     {
         self.mailboxes.note_begun();
         let mut buffer = [0; READ_SIZE];
-        let mut pause = 0;
         'turns: for _ in rt.forever() {
-            pause = self.turn(rt, pause, &mut buffer);
+            let pause = self.turn(&mut buffer);
             if self.connections.is_done() {
                 return;
             }
+            self.wait(rt, pause);
+            self.mark_ready();
+            self.hear();
         }
         unreachable!()
     }
 
-    /// A turn: waits for so many milliseconds at most, and goes on with the connections for which there is something to do. What came is read of all of them first;
-    /// then jobs are handed out and others are called for them, and only then the replies are written. For how long the next turn may wait: only where it is at rest,
-    /// and no longer than until 50 milliseconds have gone by since all went on.
-    fn turn(&mut self, rt: &R, pause: u64, buffer: &mut [u8; READ_SIZE]) -> u64
-        requires rests { MayWait pause self.old }
+    /// A turn: goes on with the connections for which there is something to do. What came is read of all of them first; then jobs are handed out and others are called
+    /// for them, and only then the replies are written. For how long the worker may wait after it: only where it is at rest, and no longer than until 50 milliseconds
+    /// have gone by since all went on.
+    fn turn(&mut self, buffer: &mut [u8; READ_SIZE]) -> u64
         ensures same { StaysOf self.old.connections self.new.connections }
         ensures rests { MayWait result self.new }
         ensures ticked { AreTicked self.new.connections.sweeps.latest self.new.connections.cells }
+        ensures told { wakes_of self.new.connections ≡ no_wakes }
         ensures offered { OffersInSweep B.group B.Seen.Witness T.counts T.given T.accepted self.old.connections self.new.connections }
     {
-        self.wait(rt, pause);
-        self.mark_ready();
-        self.hear();
         self.serve(buffer);
         self.next_wait()
     }
@@ -225,12 +224,13 @@ impl<
 
     /// Waits for so many milliseconds at most, looks at the clock, and takes the connections that were sent for it.
     fn wait(&mut self, rt: &R, pause: u64)
-        requires { MayWait pause self.old }
+        requires rests { MayWait pause self.old }
+        requires ticked { AreTicked self.old.connections.sweeps.latest self.old.connections.cells }
+        requires told { wakes_of self.old.connections ≡ no_wakes }
         ensures same { StaysOf self.old.connections self.new.connections }
         ensures begun { self.new.connections.sweeps.begun ≡ self.old.connections.sweeps.begun }
     {
-        let called = self.connections.wait(rt, pause);
-        self.connections.look(self.clock.now());
+        let called = self.connections.wait(rt, pause, &mut self.clock);
         if called {
             self.answer(rt);
         }

@@ -7,7 +7,7 @@ ghost use Rattle.final_report.specs.Brokers.{KeptItsPromisesBehind};
 ghost use Rattle.call_history.specs.Callers.{all_parts};
 ghost use Rattle.call_history.specs.Numbers.{IsEachOnce};
 ghost use Rattle.worker_connections.specs.Handles.{IsUnused};
-ghost use Rattle.worker_pool.specs.Accepting.{Gave, arrivals};
+ghost use Rattle.worker_pool.specs.Accepting.{EndedAs, Gave, arrivals};
 ghost use Rattle.worker_pool.specs.Pools.{AreServed};
 ghost use Rattle.threaded_broker.specs.Headline.{KeepsTheHeadline, RunsUntilClosed};
 ghost use Rattle.threaded_broker.specs.Shares.{IsBoundIn};
@@ -138,6 +138,7 @@ where
         × KeepsTheHeadline B.group B.Seen.Witness T.counts T.given T.accepted broker.entry.workers setup.entry.max_inflight came broker.entry.caller outcome.caller outcome.shares.items outcome.ended.answers.items outcome.ended.strangers.items outcome.served.items (map Q.closed outcome.pollers.items)) }
     ensures closed { IfOk result (λ outcome. outcome.drained ≡ B.gate) }
     ensures taken { IfOk result (λ outcome. (S.tally outcome.taken.source).arrivals ≡ (S.tally source).arrivals + outcome.taken.came) }
+    ensures ends { IfOk result (λ outcome. EndedAs S.tally outcome.taken.end source outcome.taken.source) }
     ensures watched { IfOk result (λ _. D.has_watched watch.old watch.new input.old input.new) }
     ensures shares { IfOk result (λ outcome. All (IsBoundIn outcome.shares.items) shares.now) }
 {
@@ -204,6 +205,7 @@ where
         × RunsUntilClosed B.group B.Seen.Witness T.counts T.given T.accepted setup.entry.max_inflight came broker.entry.caller closed.caller closed.shares.items closed.ports.items closed.served.items (map Q.closed closed.pollers.items)) }
     ensures closed { IfOk result (λ closed. closed.drained ≡ B.gate) }
     ensures taken { IfOk result (λ closed. (S.tally closed.taken.source).arrivals ≡ (S.tally source).arrivals + closed.taken.came) }
+    ensures ends { IfOk result (λ closed. EndedAs S.tally closed.taken.end source closed.taken.source) }
     ensures watched { IfOk result (λ _. D.has_watched watch.old watch.new input.old input.new) }
     ensures shares { IfOk result (λ closed. All (IsBoundIn closed.shares.items) shares.now) }
 {
@@ -296,6 +298,7 @@ where
     requires unused { All (λ handle. IsUnused handle.ports handle.desk) handles.items }
     ensures handles { MatchResult result (λ ran. length ran.pooled.handles.items ≡ length handles.items) (λ back. length back.items ≡ length handles.items) }
     ensures taken { IfOk result (λ ran. (S.tally ran.pooled.taken.source).arrivals ≡ (S.tally source).arrivals + ran.pooled.taken.came) }
+    ensures ends { IfOk result (λ ran. EndedAs S.tally ran.pooled.taken.end source ran.pooled.taken.source) }
     ensures served { IfOk result (λ ran. (came : List T) × (routes : List ShareState) × (ran.shares.items ≡ take most_routes routes) × Gave S.arrived source came ran.pooled.taken.source × (ran.pooled.taken.came ≡ length came)
         × AreServed B.group B.Seen.Witness T.counts T.given T.accepted (arrivals setup.entry.max_inflight came) routes (map (λ handle. handle.ports) ran.pooled.handles.items) (map (λ handle. handle.desk) ran.pooled.handles.items) ran.pooled.served.items (map Q.closed ran.pooled.pollers.items)) }
     ensures watched { IfOk result (λ _. D.has_watched watch.old watch.new input.old input.new) }

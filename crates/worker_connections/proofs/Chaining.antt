@@ -1,5 +1,5 @@
 -- The run of a worker goes on, deed by deed.
-use Rattle.std.proofs.Common.{◌≡◌, ℕ, List, [], ◌∷◌, ◌++◌, Option, Some, None, replicate, refl, sym, subst, ap, ◌∙◌, inl, inr, append-nil, append_assoc}
+use Rattle.std.proofs.Common.{◌≡◌, ◌≤◌, ℕ, max, List, [], ◌∷◌, ◌++◌, Option, Some, None, replicate, refl, sym, subst, ap, ◌∙◌, inl, inr, append-nil, append_assoc}
 use Rattle.std.specs.List.{slice_get, slice_set}
 use Rattle.transport.specs.declared.counts.Counts.{Counts}
 use Rattle.group_queue.specs.Ports.{GroupId}
@@ -18,7 +18,8 @@ use Rattle.worker_connections.specs.Arrivals.{ArrivedState}
 use Rattle.worker_connections.specs.Closing.{HasClosedNone, and_closed, closed_after}
 use Rattle.worker_connections.specs.Counting.{counted_behind, none_served}
 use Rattle.worker_connections.specs.Serving.{TakesIn}
-use Rattle.worker_connections.specs.Chains.{Deed, Opened, Closed, Allowed, MadeRound, Passed, Called, Notified, NotifiedAll, RunState, Makes, MakesAll, HasRunTo, came_in, came_by}
+use Rattle.worker_connections.specs.Chains.{Deed, Opened, Closed, Allowed, MadeRound, Passed, Called, Notified, NotifiedAll, Waited, RunState, Makes, MakesAll, HasRunTo, OwesNothing, came_in, came_by}
+use Rattle.worker_connections.specs.Sweeping.{sweep_period}
 
 module _ {T : Type 0} (group : ℕ → GroupId) (seen : Sights) (counts : T → Counts) (given accepted : T → Option (List ℕ)) where
   makes_on : (deeds : List (Deed T)) (deed : Deed T) (old mid new : RunState T) → MakesAll group seen counts given accepted deeds old mid → Makes group seen counts given accepted deed mid new
@@ -37,51 +38,51 @@ module _ {T : Type 0} (group : ℕ → GroupId) (seen : Sights) (counts : T → 
     here = refl;
   }
 
-module _ {T : Type 0} (group : ℕ → GroupId) (seen : Sights) (counts : T → Counts) (given accepted : T → Option (List ℕ)) (first : ℕ) where
+module _ {T : Type 0} (group : ℕ → GroupId) (seen : Sights) (counts : T → Counts) (given accepted : T → Option (List ℕ)) (first latest : ℕ) where
   -- none yet
   pub runs_from : (count : ℕ) (supply : Worker) (cells : List (Option (ServiceState PlaceState T))) (received : List (ArrivedState T)) (closed : Option (List T)) → cells ≡ replicate count None → received ≡ []
-      → supply.wakes ≡ no_wakes → IsUnused supply.ports supply.desk → HasClosedNone closed
-      → HasRunTo group seen counts given accepted (record { first = first; supply = supply; cells = cells; received = received; served = none_served; closed = closed })
-  runs_from count supply cells received closed free none quiet unused nothing =
-      let begun : RunState T = record { first = first; supply = supply; cells = cells; received = received; served = none_served; closed = closed } in
+      → supply.wakes ≡ no_wakes → IsUnused supply.ports supply.desk → HasClosedNone closed → latest ≡ 0
+      → HasRunTo group seen counts given accepted (record { first = first; supply = supply; cells = cells; received = received; served = none_served; closed = closed; latest = latest })
+  runs_from count supply cells received closed free none quiet unused nothing begins =
+      let begun : RunState T = record { first = first; supply = supply; cells = cells; received = received; served = none_served; closed = closed; latest = latest } in
       record {
         run = record { first = begun; deeds = []; last = begun };
-        is = record { begun = record { count = count; free = free; none_came = none; none_ended = refl; none_waits = quiet; none_closed = nothing; none_sent = unused.none_sent; none_called = unused.none_called }; made = refl };
+        is = record { begun = record { count = count; free = free; none_came = none; none_ended = refl; none_waits = quiet; none_closed = nothing; none_sent = unused.none_sent; none_called = unused.none_called; not_looked = begins }; made = refl };
         here = refl;
       }
 
   -- one came
   pub comes : (arrived : ArrivedState T) (supply : Worker) (cells cells' : List (Option (ServiceState PlaceState T))) (received received' : List (ArrivedState T)) (served served' : ServedCounts) (closed closed' : Option (List T))
-      (now : ℕ) → received' ≡ received ++ arrived ∷ []
-      → HasRunTo group seen counts given accepted (record { first = first; supply = supply; cells = cells; received = received; served = served; closed = closed })
-      → TakesIn counts given accepted first now arrived cells served closed cells' served' closed'
-      → HasRunTo group seen counts given accepted (record { first = first; supply = supply; cells = cells'; received = received'; served = served'; closed = closed' })
-  comes arrived supply cells cells' received received' served served' closed closed' now more ran (inl opened) =
-      runs_on group seen counts given accepted (Opened arrived opened.0 now) _ _ ran
-      (opened.1.0, opened.1.1, opened.1.2, λ i. record { first = first; supply = supply; cells = cells'; received = more i; served = opened.2 i; closed = opened.1.4 i })
-  comes arrived supply cells cells' received received' served served' closed closed' now more ran (inr refused) =
+      → received' ≡ received ++ arrived ∷ []
+      → HasRunTo group seen counts given accepted (record { first = first; supply = supply; cells = cells; received = received; served = served; closed = closed; latest = latest })
+      → TakesIn counts given accepted first latest arrived cells served closed cells' served' closed'
+      → HasRunTo group seen counts given accepted (record { first = first; supply = supply; cells = cells'; received = received'; served = served'; closed = closed'; latest = latest })
+  comes arrived supply cells cells' received received' served served' closed closed' more ran (inl opened) =
+      runs_on group seen counts given accepted (Opened arrived opened.0 latest) _ _ ran
+      (opened.1.0, opened.1.1, opened.1.2, λ i. record { first = first; supply = supply; cells = cells'; received = more i; served = opened.2 i; closed = opened.1.4 i; latest = latest }, refl)
+  comes arrived supply cells cells' received received' served served' closed closed' more ran (inr refused) =
       runs_on group seen counts given accepted (Closed arrived) _ _ ran
-      (refused.0.1.0, refused.0.1.1, λ i. record { first = first; supply = supply; cells = refused.0.0 i; received = more i; served = refused.1 i; closed = refused.0.1.2 i })
+      (refused.0.1.0, refused.0.1.1, λ i. record { first = first; supply = supply; cells = refused.0.0 i; received = more i; served = refused.1 i; closed = refused.0.1.2 i; latest = latest })
 
   -- the connection in a cell went on by a round
-  goes : (supply supply' : Worker) (cells cells' : List (Option (ServiceState PlaceState T))) (received : List (ArrivedState T)) (served served' : ServedCounts) (closed closed' : Option (List T)) (now cell : ℕ)
+  goes : (supply supply' : Worker) (cells cells' : List (Option (ServiceState PlaceState T))) (received : List (ArrivedState T)) (served served' : ServedCounts) (closed closed' : Option (List T)) (cell : ℕ)
       (before after : Option (ServiceState PlaceState T)) (cell_outcome : CellOutcome T) → slice_get cells cell ≡ Some before → cells' ≡ slice_set cells cell after
-      → Turns (Calls group seen) Begins Leaves is_visiting (λ (p : PlaceState). p.group) counts given accepted now before supply cell_outcome after supply'
+      → Turns (Calls group seen) Begins Leaves is_visiting (λ (p : PlaceState). p.group) counts given accepted latest before supply cell_outcome after supply'
       → served' ≡ counted_behind cell_outcome served → closed' ≡ closed_after cell_outcome closed
-      → (deed : Deed T) × Makes group seen counts given accepted deed (record { first = first; supply = supply; cells = cells; received = received; served = served; closed = closed })
-      (record { first = first; supply = supply'; cells = cells'; received = received; served = served'; closed = closed' })
-  goes supply supply' cells cells' received served served' closed closed' now cell None after cell_outcome has is made counted_is closed_is =
+      → (deed : Deed T) × Makes group seen counts given accepted deed (record { first = first; supply = supply; cells = cells; received = received; served = served; closed = closed; latest = latest })
+      (record { first = first; supply = supply'; cells = cells'; received = received; served = served'; closed = closed'; latest = latest })
+  goes supply supply' cells cells' received served served' closed closed' cell None after cell_outcome has is made counted_is closed_is =
       let same : served' ≡ served = subst (λ (t : CellOutcome T). served' ≡ counted_behind t served) made.0 counted_is in
       let unclosed : closed' ≡ closed = subst (λ (t : CellOutcome T). closed' ≡ closed_after t closed) made.0 closed_is in (
         Passed cell,
         (
           record { before = None; after = after; has = has; becomes = (refl, made.1); is = is },
-          λ i. record { first = first; supply = made.2 i; cells = cells'; received = received; served = same i; closed = unclosed i },
+          λ i. record { first = first; supply = made.2 i; cells = cells'; received = received; served = same i; closed = unclosed i; latest = latest },
         ),
       )
-  goes supply supply' cells cells' received served served' closed closed' now cell (Some service) after Vacant has is made counted_is closed_is = absurd made.2
-  goes supply supply' cells cells' received served served' closed closed' now cell (Some service) after (Goes round) has is made counted_is closed_is = (
-    MadeRound cell now made.1.led.acts None,
+  goes supply supply' cells cells' received served served' closed closed' cell (Some service) after Vacant has is made counted_is closed_is = absurd made.2
+  goes supply supply' cells cells' received served served' closed closed' cell (Some service) after (Goes round) has is made counted_is closed_is = (
+    MadeRound cell latest made.1.led.acts None,
     (
       record {
         before = Some service;
@@ -90,11 +91,12 @@ module _ {T : Type 0} (group : ℕ → GroupId) (seen : Sights) (counts : T → 
         becomes = record { service = service; here = refl; behind = made.0; round = made.1; acts_are = refl; leaves = made.2.1; closes = closed_is };
         is = is;
       },
-      λ i. record { first = first; supply = supply'; cells = cells'; received = received; served = counted_is i; closed = closed' },
+      λ i. record { first = first; supply = supply'; cells = cells'; received = received; served = counted_is i; closed = closed'; latest = latest },
+      refl,
     ),
   )
-  goes supply supply' cells cells' received served served' closed closed' now cell (Some service) after (Ended how transport) has is made counted_is closed_is = (
-    MadeRound cell now made.1.led.acts (Some how),
+  goes supply supply' cells cells' received served served' closed closed' cell (Some service) after (Ended how transport) has is made counted_is closed_is = (
+    MadeRound cell latest made.1.led.acts (Some how),
     (
       record {
         before = Some service;
@@ -111,53 +113,65 @@ module _ {T : Type 0} (group : ℕ → GroupId) (seen : Sights) (counts : T → 
         };
         is = is;
       },
-      λ i. record { first = first; supply = supply'; cells = cells'; received = received; served = counted_is i; closed = closed' },
+      λ i. record { first = first; supply = supply'; cells = cells'; received = received; served = counted_is i; closed = closed'; latest = latest },
+      refl,
     ),
   )
 
   -- so many messages were allowed, and then it went on by a round
-  pub outcome : (supply allowed supply' : Worker) (most : ℕ) (cells cells' : List (Option (ServiceState PlaceState T))) (received : List (ArrivedState T)) (served served' : ServedCounts) (closed closed' : Option (List T)) (now cell : ℕ)
-      (cell_outcome : CellOutcome T) → HasRunTo group seen counts given accepted (record { first = first; supply = supply; cells = cells; received = received; served = served; closed = closed })
+  pub outcome : (supply allowed supply' : Worker) (most : ℕ) (cells cells' : List (Option (ServiceState PlaceState T))) (received : List (ArrivedState T)) (served served' : ServedCounts) (closed closed' : Option (List T)) (cell : ℕ)
+      (cell_outcome : CellOutcome T) → HasRunTo group seen counts given accepted (record { first = first; supply = supply; cells = cells; received = received; served = served; closed = closed; latest = latest })
       → allowed ≡ record supply { allowance = most }
-      → InCell cells cell (λ before after. Turns (Calls group seen) Begins Leaves is_visiting (λ (p : PlaceState). p.group) counts given accepted now before allowed cell_outcome after supply') cells'
+      → InCell cells cell (λ before after. Turns (Calls group seen) Begins Leaves is_visiting (λ (p : PlaceState). p.group) counts given accepted latest before allowed cell_outcome after supply') cells'
       → served' ≡ counted_behind cell_outcome served → closed' ≡ closed_after cell_outcome closed
-      → HasRunTo group seen counts given accepted (record { first = first; supply = supply'; cells = cells'; received = received; served = served'; closed = closed' })
-  outcome supply allowed supply' most cells cells' received served served' closed closed' now cell cell_outcome ran allows made counted_is closed_is =
-      let deed = goes allowed supply' cells cells' received served served' closed closed' now cell made.before made.after cell_outcome made.has made.is made.becomes counted_is closed_is in
+      → HasRunTo group seen counts given accepted (record { first = first; supply = supply'; cells = cells'; received = received; served = served'; closed = closed'; latest = latest })
+  outcome supply allowed supply' most cells cells' received served served' closed closed' cell cell_outcome ran allows made counted_is closed_is =
+      let deed = goes allowed supply' cells cells' received served served' closed closed' cell made.before made.after cell_outcome made.has made.is made.becomes counted_is closed_is in
       runs_on group seen counts given accepted deed.0 _ _
-      (runs_on group seen counts given accepted (Allowed most) _ (record { first = first; supply = allowed; cells = cells; received = received; served = served; closed = closed }) ran
-      (λ i. record { first = first; supply = allows i; cells = cells; received = received; served = served; closed = closed })) deed.1
+      (runs_on group seen counts given accepted (Allowed most) _ (record { first = first; supply = allowed; cells = cells; received = received; served = served; closed = closed; latest = latest }) ran
+      (λ i. record { first = first; supply = allows i; cells = cells; received = received; served = served; closed = closed; latest = latest })) deed.1
 
   -- it was called for a message of this group
   pub called_on : (slot : ℕ) (supply supply' : Worker) (cells : List (Option (ServiceState PlaceState T))) (received : List (ArrivedState T)) (served : ServedCounts) (closed : Option (List T))
       → supply' ≡ record supply { wakes = one_called slot supply.wakes }
-      → HasRunTo group seen counts given accepted (record { first = first; supply = supply; cells = cells; received = received; served = served; closed = closed })
-      → HasRunTo group seen counts given accepted (record { first = first; supply = supply'; cells = cells; received = received; served = served; closed = closed })
+      → HasRunTo group seen counts given accepted (record { first = first; supply = supply; cells = cells; received = received; served = served; closed = closed; latest = latest })
+      → HasRunTo group seen counts given accepted (record { first = first; supply = supply'; cells = cells; received = received; served = served; closed = closed; latest = latest })
   called_on slot supply supply' cells received served closed is ran =
-      runs_on group seen counts given accepted (Called slot) _ _ ran (λ i. record { first = first; supply = is i; cells = cells; received = received; served = served; closed = closed })
+      runs_on group seen counts given accepted (Called slot) _ _ ran (λ i. record { first = first; supply = is i; cells = cells; received = received; served = served; closed = closed; latest = latest })
 
   -- it told others of the messages that are more than these
   pub told_on : (most others : List ℕ) (supply supply' : Worker) (cells : List (Option (ServiceState PlaceState T))) (received : List (ArrivedState T)) (served : ServedCounts) (closed : Option (List T))
       → KeepsAtMost most others supply.wakes supply'.wakes → supply' ≡ record supply { wakes = supply'.wakes }
-      → HasRunTo group seen counts given accepted (record { first = first; supply = supply; cells = cells; received = received; served = served; closed = closed })
-      → HasRunTo group seen counts given accepted (record { first = first; supply = supply'; cells = cells; received = received; served = served; closed = closed })
+      → HasRunTo group seen counts given accepted (record { first = first; supply = supply; cells = cells; received = received; served = served; closed = closed; latest = latest })
+      → HasRunTo group seen counts given accepted (record { first = first; supply = supply'; cells = cells; received = received; served = served; closed = closed; latest = latest })
   told_on most others supply supply' cells received served closed keeps is ran =
-      runs_on group seen counts given accepted (Notified most others) _ _ ran (keeps, λ i. record { first = first; supply = is i; cells = cells; received = received; served = served; closed = closed })
+      runs_on group seen counts given accepted (Notified most others) _ _ ran (keeps, λ i. record { first = first; supply = is i; cells = cells; received = received; served = served; closed = closed; latest = latest })
 
   -- it told others all that they wait for
   pub told_all_on : (supply supply' : Worker) (cells : List (Option (ServiceState PlaceState T))) (received : List (ArrivedState T)) (served : ServedCounts) (closed : Option (List T))
       → supply' ≡ record supply { wakes = no_wakes }
-      → HasRunTo group seen counts given accepted (record { first = first; supply = supply; cells = cells; received = received; served = served; closed = closed })
-      → HasRunTo group seen counts given accepted (record { first = first; supply = supply'; cells = cells; received = received; served = served; closed = closed })
+      → HasRunTo group seen counts given accepted (record { first = first; supply = supply; cells = cells; received = received; served = served; closed = closed; latest = latest })
+      → HasRunTo group seen counts given accepted (record { first = first; supply = supply'; cells = cells; received = received; served = served; closed = closed; latest = latest })
   told_all_on supply supply' cells received served closed is ran =
-      runs_on group seen counts given accepted NotifiedAll _ _ ran (λ i. record { first = first; supply = is i; cells = cells; received = received; served = served; closed = closed })
+      runs_on group seen counts given accepted NotifiedAll _ _ ran (λ i. record { first = first; supply = is i; cells = cells; received = received; served = served; closed = closed; latest = latest })
 
-  -- it waited at its poller, which closed nothing
-  pub waits_on : (supply : Worker) (cells : List (Option (ServiceState PlaceState T))) (received : List (ArrivedState T)) (served : ServedCounts) (closed closed' : Option (List T)) → closed' ≡ closed
-      → HasRunTo group seen counts given accepted (record { first = first; supply = supply; cells = cells; received = received; served = served; closed = closed })
-      → HasRunTo group seen counts given accepted (record { first = first; supply = supply; cells = cells; received = received; served = served; closed = closed' })
-  waits_on supply cells received served closed closed' same ran =
-      subst (λ (those : Option (List T)). HasRunTo group seen counts given accepted (record { first = first; supply = supply; cells = cells; received = received; served = served; closed = those })) (sym same) ran
+  -- it waited at its poller, which closed nothing, and looked at its clock
+  pub waits_on : (at_most now latest' : ℕ) (supply : Worker) (cells : List (Option (ServiceState PlaceState T))) (received : List (ArrivedState T)) (served : ServedCounts) (closed closed' : Option (List T))
+      → OwesNothing (record { first = first; supply = supply; cells = cells; received = received; served = served; closed = closed; latest = latest }) → at_most ≤ sweep_period → closed' ≡ closed → latest' ≡ max latest now
+      → HasRunTo group seen counts given accepted (record { first = first; supply = supply; cells = cells; received = received; served = served; closed = closed; latest = latest })
+      → HasRunTo group seen counts given accepted (record { first = first; supply = supply; cells = cells; received = received; served = served; closed = closed'; latest = latest' })
+  waits_on at_most now latest' supply cells received served closed closed' owes in_time same looks ran =
+      runs_on group seen counts given accepted (Waited at_most now) _ _ ran
+      (owes, in_time, λ i. record { first = first; supply = supply; cells = cells; received = received; served = served; closed = same i; latest = looks i })
+
+  -- its poller closed nothing, and its moment is the same
+  pub stays_at : (latest' : ℕ) (supply : Worker) (cells : List (Option (ServiceState PlaceState T))) (received : List (ArrivedState T)) (served : ServedCounts) (closed closed' : Option (List T))
+      → closed' ≡ closed → latest' ≡ latest
+      → HasRunTo group seen counts given accepted (record { first = first; supply = supply; cells = cells; received = received; served = served; closed = closed; latest = latest })
+      → HasRunTo group seen counts given accepted (record { first = first; supply = supply; cells = cells; received = received; served = served; closed = closed'; latest = latest' })
+  stays_at latest' supply cells received served closed closed' same still ran =
+      subst (λ (state : RunState T). HasRunTo group seen counts given accepted state) {y = record { first = first; supply = supply; cells = cells; received = received; served = served; closed = closed'; latest = latest' }}
+      (λ i. record { first = first; supply = supply; cells = cells; received = received; served = served; closed = sym same i; latest = sym still i }) ran
 
 module _ {T : Type 0} (group : ℕ → GroupId) (seen : Sights) (counts : T → Counts) (given accepted : T → Option (List ℕ)) where
   -- each connection that came stands in the list of deeds, once, and nothing else does
@@ -170,6 +184,7 @@ module _ {T : Type 0} (group : ℕ → GroupId) (seen : Sights) (counts : T → 
   came_one (Called slot) old new does = ap (λ (s : RunState T). s.received) does ∙ sym (append-nil old.received)
   came_one (Notified most others) old new does = ap (λ (s : RunState T). s.received) does.1 ∙ sym (append-nil old.received)
   came_one NotifiedAll old new does = ap (λ (s : RunState T). s.received) does ∙ sym (append-nil old.received)
+  came_one (Waited at_most now) old new does = ap (λ (s : RunState T). s.received) does.2 ∙ sym (append-nil old.received)
 
   pub came_all : (deeds : List (Deed T)) (old new : RunState T) → MakesAll group seen counts given accepted deeds old new → new.received ≡ old.received ++ came_by deeds
   came_all [] old new does = ap (λ (s : RunState T). s.received) does ∙ sym (append-nil old.received)

@@ -39,7 +39,7 @@ use Rattle.shared_supply.specs.Calls.{Calls}
 use Rattle.shared_supply.specs.Workers.{Worker, Begins, Leaves, is_visiting}
 use Rattle.worker_connections.specs.Cells.{Opens}
 use Rattle.worker_connections.specs.Arrivals.{opening_at}
-use Rattle.worker_connections.specs.Chains.{Deed, Opened, Closed, Allowed, MadeRound, Passed, Called, Notified, NotifiedAll, IsFirst, LeavesCell, Makes, MakesAll, RunState}
+use Rattle.worker_connections.specs.Chains.{Deed, Opened, Closed, Allowed, MadeRound, Passed, Called, Notified, NotifiedAll, Waited, IsFirst, LeavesCell, Makes, MakesAll, RunState}
 use Rattle.worker_connections.proofs.Parts.{at_cell}
 
 -- a client that has its session has the window, and the session is not ending
@@ -150,6 +150,7 @@ module _ (group : ℕ → GroupId) (seen : Sights) where
     made_going (Called slot) old new does all = subst (λ (s : RunState T). AreGoing s.cells) (sym does) all
     made_going (Notified most others) old new does all = subst (λ (s : RunState T). AreGoing s.cells) (sym does.1) all
     made_going NotifiedAll old new does all = subst (λ (s : RunState T). AreGoing s.cells) (sym does) all
+    made_going (Waited at_most now) old new does all = subst (λ (s : RunState T). AreGoing s.cells) (sym does.2) all
 
     all_going : (deeds : List (Deed T)) (old new : RunState T) → MakesAll group seen counts given accepted deeds old new → AreGoing old.cells → AreGoing new.cells
     all_going [] old new does all = subst (λ (s : RunState T). AreGoing s.cells) (sym does) all

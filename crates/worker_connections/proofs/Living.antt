@@ -17,7 +17,7 @@ use Rattle.worker_connections.specs.Cells.{Opens}
 use Rattle.shared_supply.specs.Calls.{Calls}
 use Rattle.shared_supply.specs.Workers.{Begins, Leaves, is_visiting}
 use Rattle.worker_connections.specs.Arrivals.{ArrivedState, opening_at}
-use Rattle.worker_connections.specs.Chains.{Deed, Opened, Closed, Allowed, MadeRound, Passed, Called, Notified, NotifiedAll, LeavesCell, Makes, MakesAll, RunState, came_in, came_by}
+use Rattle.worker_connections.specs.Chains.{Deed, Opened, Closed, Allowed, MadeRound, Passed, Called, Notified, NotifiedAll, Waited, LeavesCell, Makes, MakesAll, RunState, came_in, came_by}
 use Rattle.worker_connections.specs.Lives.{HasLived, IfLived}
 use Rattle.worker_connections.proofs.Parts.{at_cell, both_parts}
 
@@ -124,6 +124,7 @@ module _ {T : Type 0} (group : ℕ → GroupId) (seen : Sights) (counts : T → 
   lives (Called slot) old new fresh does all = subst (λ (s : RunState T). AllLived s.cells) (sym does) all
   lives (Notified most others) old new fresh does all = subst (λ (s : RunState T). AllLived s.cells) (sym does.1) all
   lives NotifiedAll old new fresh does all = subst (λ (s : RunState T). AllLived s.cells) (sym does) all
+  lives (Waited at_most now) old new fresh does all = subst (λ (s : RunState T). AllLived s.cells) (sym does.2) all
 
   -- **Each connection has its life in the run**: at each state of it, the connection in a cell was led there by rounds from its opening, with others between them
   pub lives_all : (deeds : List (Deed T)) (old new : RunState T) → AllByRecursion (λ (arrived : ArrivedState T). counts arrived.transport ≡ no_counts) (came_by deeds)

@@ -47,7 +47,7 @@ use Rattle.conn_service.specs.Services.{ServiceState}
 use Rattle.conn_service.specs.Visits.{Stand, Outside, Inside, Behind, Parting, Parted, Treads, Walks}
 use Rattle.shared_supply.specs.Calls.{Calls, missing}
 use Rattle.shared_supply.specs.Workers.{Worker, Begins, Leaves, is_visiting}
-use Rattle.worker_connections.specs.Chains.{Deed, Opened, Closed, Allowed, MadeRound, Passed, Called, Notified, NotifiedAll, Makes, Run, RunState}
+use Rattle.worker_connections.specs.Chains.{Deed, Opened, Closed, Allowed, MadeRound, Passed, Called, Notified, NotifiedAll, Waited, Makes, Run, RunState}
 use Rattle.worker_connections.specs.EachAct.{EachAct, EachActOf}
 use Rattle.worker_connections.specs.Publishing.{IsPromised, IsCutShort, IsPublished, IsPublishedBy, Publishes, PublishesAt, PublishesIn, PublishesSome, PublisherState, PutsInto, PutsSome, publisher_of, slots_matched}
 
@@ -468,6 +468,7 @@ module _ (group : ℕ → GroupId) (seen : Sights) where
     done (Called slot) old new does = tt
     done (Notified most others) old new does = tt
     done NotifiedAll old new does = tt
+    done (Waited at_most now) old new does = tt
 
     -- all that came into the ports was published by the acts of the run
     pub all_published : (run : Run T) → IsPublishedBy group seen counts given accepted run

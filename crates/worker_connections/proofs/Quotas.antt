@@ -23,7 +23,7 @@ use Rattle.shared_supply.specs.Workers.{Worker, Begins, Leaves, is_visiting}
 use Rattle.worker_connections.specs.Arrivals.{ArrivedState, opening_at}
 use Rattle.worker_connections.proofs.Chaining.{came_all}
 use Rattle.worker_connections.proofs.Parts.{at_cell, both_parts}
-use Rattle.worker_connections.specs.Chains.{Deed, Opened, Closed, Allowed, MadeRound, Passed, Called, Notified, NotifiedAll, IsRun, KeepsReceiveMaximum, LeavesCell, Makes, MakesAll, Run, RunState, came_in, came_by}
+use Rattle.worker_connections.specs.Chains.{Deed, Opened, Closed, Allowed, MadeRound, Passed, Called, Notified, NotifiedAll, Waited, IsRun, KeepsReceiveMaximum, LeavesCell, Makes, MakesAll, Run, RunState, came_in, came_by}
 
 -- it has no more unacknowledged than its Receive Maximum, and than this limit
 abbrev Within : ℕ → ConnPhase PlaceState → Type 0
@@ -84,6 +84,7 @@ module _ {T : Type 0} (group : ℕ → GroupId) (seen : Sights) (counts : T → 
   keeps limit (Called slot) old new few does all = subst (λ (s : RunState T). All (IfWithin limit) s.cells) (sym does) all
   keeps limit (Notified most others) old new few does all = subst (λ (s : RunState T). All (IfWithin limit) s.cells) (sym does.1) all
   keeps limit NotifiedAll old new few does all = subst (λ (s : RunState T). All (IfWithin limit) s.cells) (sym does) all
+  keeps limit (Waited at_most now) old new few does all = subst (λ (s : RunState T). All (IfWithin limit) s.cells) (sym does.2) all
 
   keeps_all : (limit : ℕ) (deeds : List (Deed T)) (old new : RunState T) → AllByRecursion (IsLimited limit) (came_by deeds) → MakesAll group seen counts given accepted deeds old new
       → All (IfWithin limit) old.cells → All (IfWithin limit) new.cells

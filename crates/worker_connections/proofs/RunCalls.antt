@@ -1,5 +1,5 @@
 -- Each run of a worker has its calls: those of its steps, one after the other.
-use Rattle.std.proofs.Common.{◌≡◌, ℕ, List, [], ◌∷◌, ◌++◌, Option, refl, sym, subst, inl, inr}
+use Rattle.std.proofs.Common.{ℕ, List, [], ◌∷◌, ◌++◌, Option, refl, sym, subst, inl, inr}
 use Rattle.transport.specs.declared.counts.Counts.{Counts}
 use Rattle.group_queue.specs.Ports.{GroupId}
 use Rattle.group_queue.specs.Places.{PlaceState}
@@ -16,7 +16,7 @@ use Rattle.conn_service.specs.Services.{ServiceState}
 use Rattle.conn_service.specs.Visits.{Stand, Outside, Behind, Treads, Walks}
 use Rattle.shared_supply.specs.Calls.{Calls}
 use Rattle.shared_supply.specs.Workers.{Worker, Begins, Leaves, is_visiting}
-use Rattle.worker_connections.specs.Chains.{Deed, Opened, Closed, Allowed, MadeRound, Passed, Called, Notified, NotifiedAll, Makes, MakesAll, IsRun, Run, RunState}
+use Rattle.worker_connections.specs.Chains.{Deed, Opened, Closed, Allowed, MadeRound, Passed, Called, Notified, NotifiedAll, Waited, Makes, MakesAll, IsRun, Run, RunState}
 use Rattle.worker_connections.proofs.Publishing.{no_others}
 use Rattle.worker_connections.specs.RunCalls.{AreOfAct, AreOfActs, AreOfDeed, AreOfDeeds, AreOfTheLast, AreCallsOf}
 
@@ -94,6 +94,7 @@ module _ {T : Type 0} (group : ℕ → GroupId) (seen : Sights) (counts : T → 
   done (Called slot) old new does = ([], refl)
   done (Notified most others) old new does = ([], refl)
   done NotifiedAll old new does = ([], refl)
+  done (Waited at_most now) old new does = ([], refl)
 
   all_done : (deeds : List (Deed T)) (old new : RunState T) → MakesAll group seen counts given accepted deeds old new → (calls : List (SupplyCall PlaceState)) × AreOfDeeds group seen counts given accepted deeds old calls new
   all_done [] old new does = ([], (refl, does))

@@ -10,7 +10,7 @@ use Rattle.conn_service.specs.Services.{ServiceState}
 use Rattle.conn_service.proofs.Sessions.{tells}
 use Rattle.shared_supply.specs.Calls.{Calls}
 use Rattle.shared_supply.specs.Workers.{Worker, Begins, Leaves, is_visiting}
-use Rattle.worker_connections.specs.Chains.{Deed, Opened, Closed, Allowed, MadeRound, Passed, Called, Notified, NotifiedAll, IsRun, Makes, Run, RunState}
+use Rattle.worker_connections.specs.Chains.{Deed, Opened, Closed, Allowed, MadeRound, Passed, Called, Notified, NotifiedAll, Waited, IsRun, Makes, Run, RunState}
 use Rattle.worker_connections.proofs.Going.{AreGoing, IsGoing, cell_going, going_on, not_ending, run_going}
 use Rattle.worker_connections.specs.EachAct.{EachAct, EachActOf}
 use Rattle.worker_connections.specs.Sessions.{KeepsSessions, TellsSession}
@@ -54,6 +54,7 @@ module _ {T : Type 0} (group : ℕ → GroupId) (seen : Sights) (counts : T → 
   told (Called slot) old new all does = tt
   told (Notified most others) old new all does = tt
   told NotifiedAll old new all does = tt
+  told (Waited at_most now) old new all does = tt
 
   -- each run does
   pub all_sessions : (run : Run T) → IsRun group seen counts given accepted run → KeepsSessions group seen counts given accepted run

@@ -1,5 +1,5 @@
 -- The run of a worker: what it did, one deed after the other, each at the state that the one before it left, from ports through which nothing was published.
-use Rattle.std.specs.Prelude.{◌≡◌, ℕ, ◌+◌, List, [], ◌∷◌, ◌++◌, Option, Some, None, replicate, slice_get}
+use Rattle.std.specs.Prelude.{◌≡◌, ◌≤◌, ℕ, ◌+◌, max, List, [], ◌∷◌, ◌++◌, Option, Some, None, replicate, slice_get}
 use Rattle.std.specs.List.{flat_map}
 use Rattle.transport.specs.declared.counts.Counts.{Counts}
 use Rattle.group_queue.specs.Ports.{GroupId}
@@ -21,6 +21,7 @@ use Rattle.worker_connections.specs.declared.served.ServedCounts.{ServedCounts}
 use Rattle.worker_connections.specs.Arrivals.{ArrivedState, IsWatched, opening_at}
 use Rattle.worker_connections.specs.Closing.{HasClosedNone, and_closed, closed_if}
 use Rattle.worker_connections.specs.Counting.{counted, counted_if, none_served}
+use Rattle.worker_connections.specs.Sweeping.{AreTicked, sweep_period}
 
 -- what a worker did
 pub data Deed (T : Type 0) : Type 0 where
@@ -40,9 +41,12 @@ pub data Deed (T : Type 0) : Type 0 where
   Notified : (most others : List ℕ) → Deed T
   -- it told others all that they wait for
   NotifiedAll : Deed T
+  -- it waited for so many milliseconds at most, and then looked at its clock, which told this moment
+  Waited : (at_most now : ℕ) → Deed T
 
 -- what a worker has: the number of the connection in its first cell, from which on those in the others have theirs; what it asks, its connections, those that came, in order, how
--- connections ended, and which transports it closed, each as it was then, in order; `None` where its poller does not tell that
+-- connections ended, and which transports it closed, each as it was then, in order; `None` where its poller does not tell that. Its moment is that of its latest look at its clock,
+-- or of an earlier one where the clock was set back
 pub record RunState (T : Type 0) : Type 0 where
   pub first : ℕ
   pub supply : Worker
@@ -50,6 +54,7 @@ pub record RunState (T : Type 0) : Type 0 where
   pub received : List (ArrivedState T)
   pub served : ServedCounts
   pub closed : Option (List T)
+  pub latest : ℕ
 
 -- the run of a worker: from its first state to its last one
 pub record Run (T : Type 0) : Type 0 where
@@ -57,7 +62,7 @@ pub record Run (T : Type 0) : Type 0 where
   pub deeds : List (Deed T)
   pub last : RunState T
 
--- nothing came yet, nothing was published, and the desk was not called: so what its ports have in the end was published in the run, and the calls that are its own were made in it
+-- nothing came yet, it did not look at its clock, nothing was published, and the desk was not called: so what its ports have in the end was published in the run, and the calls that are its own were made in it
 pub record IsFirst {T : Type 0} (state : RunState T) : Type 0 where
   pub count : ℕ
   pub free : state.cells ≡ replicate count None
@@ -67,6 +72,13 @@ pub record IsFirst {T : Type 0} (state : RunState T) : Type 0 where
   pub none_closed : HasClosedNone state.closed
   pub none_sent : AreUnsent state.supply.ports
   pub none_called : state.supply.desk.own ≡ []
+  pub not_looked : state.latest ≡ 0
+
+-- a worker owes nothing: each of its open connections had a Tick, or was opened, less than 100 milliseconds before its moment, or waits to write; and it told others all that they
+-- wait for
+pub record OwesNothing {T : Type 0} (state : RunState T) : Type 0 where
+  pub ticked : AreTicked state.latest state.cells
+  pub told : state.supply.wakes ≡ no_wakes
 
 -- after a round: it goes on in its cell, or has ended so and left it
 abbrev pub LeavesCell : {T : Type 0} → Option Served → ServiceState PlaceState T → Option (ServiceState PlaceState T) → Type 0
@@ -90,24 +102,26 @@ module _ {T : Type 0} (group : ℕ → GroupId) (seen : Sights) (counts : T → 
     pub leaves : LeavesCell how behind after
     pub closes : closed' ≡ closed_if how behind.transport closed
 
-  -- what a deed makes of the worker
+  -- what a deed makes of the worker. What it does at a moment it does at its own one, and that changes only where it waited and looked at its clock. **It waits only where it owes
+  -- nothing**, and no longer than 50 milliseconds
   abbrev pub Makes : Deed T → RunState T → RunState T → Type 0
   Makes (Opened arrived cell now) old new =
       (watched : T) × IsWatched counts given accepted arrived.transport watched × InCell old.cells cell (Opens (old.first + cell) (opening_at now arrived) watched) new.cells
-      × (new ≡ record old { cells = new.cells; received = old.received ++ arrived ∷ [] })
+      × (new ≡ record old { cells = new.cells; received = old.received ++ arrived ∷ [] }) × (now ≡ old.latest)
   Makes (Closed arrived) old new =
       (watched : T) × IsWatched counts given accepted arrived.transport watched
       × (new ≡ record old { received = old.received ++ arrived ∷ []; served = counted Memory old.served; closed = and_closed watched old.closed })
   Makes (Allowed most) old new = new ≡ record old { supply = record old.supply { allowance = most } }
   Makes (MadeRound cell now acts how) old new =
       InCell old.cells cell (λ before after. GoesOn now acts how before old.supply old.closed after new.supply new.closed) new.cells
-      × (new ≡ record old { supply = new.supply; cells = new.cells; served = counted_if how old.served; closed = new.closed })
+      × (new ≡ record old { supply = new.supply; cells = new.cells; served = counted_if how old.served; closed = new.closed }) × (now ≡ old.latest)
   Makes (Passed cell) old new =
       InCell old.cells cell (λ before after. (before ≡ None) × (after ≡ None)) new.cells × (new ≡ record old { cells = new.cells })
   Makes (Called slot) old new = new ≡ record old { supply = record old.supply { wakes = one_called slot old.supply.wakes } }
   Makes (Notified most others) old new =
       KeepsAtMost most others old.supply.wakes new.supply.wakes × (new ≡ record old { supply = record old.supply { wakes = new.supply.wakes } })
   Makes NotifiedAll old new = new ≡ record old { supply = record old.supply { wakes = no_wakes } }
+  Makes (Waited at_most now) old new = OwesNothing old × (at_most ≤ sweep_period) × (new ≡ record old { latest = max old.latest now })
 
   -- these deeds, one after the other
   abbrev pub MakesAll : List (Deed T) → RunState T → RunState T → Type 0

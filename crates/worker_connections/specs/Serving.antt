@@ -60,6 +60,7 @@ run_of connections =
       received = connections.receiver.received;
       served = connections.served;
       closed = connections.closed;
+      latest = connections.sweeps.latest;
     }
 
 -- none was received yet

@@ -1,18 +1,18 @@
 //! The connections of a worker: those that it received are open, or have ended and are counted.
-ghost use Rattle.std.specs.Prelude.{◌≡◌, ◌<◌, ◌+◌, ℕ, [], None, true, false, replicate, length};
+ghost use Rattle.std.specs.Prelude.{◌≡◌, ◌<◌, ◌≤◌, ◌+◌, ℕ, [], None, true, false, replicate, length};
 ghost use Rattle.group_queue.specs.Places.{PlaceState};
 ghost use Rattle.worker_connections.specs.Cells.{FollowsIn, InCell, Turns, ended_by, occupied};
 ghost use Rattle.worker_connections.specs.declared.cell_outcome.CellOutcome.{CellOutcome as AnyOutcome};
 ghost use Rattle.shared_supply.specs.Calls.{Calls};
 ghost use Rattle.shared_supply.specs.Waking.{KeepsAtMost, no_wakes};
 ghost use Rattle.shared_supply.specs.Workers.{Begins as BeginsVisit, Leaves as LeavesVisit, is_visiting};
-ghost use Rattle.worker_connections.specs.Chains.{HasRunTo};
+ghost use Rattle.worker_connections.specs.Chains.{HasRunTo, OwesNothing};
 ghost use Rattle.worker_connections.specs.Closing.{HasClosedNone};
 ghost use Rattle.worker_connections.specs.Handles.{IsUnused};
 ghost use Rattle.worker_connections.specs.Serving.{AreCounted, AreFresh, GoesBy, IsDone, Rounds, StaysOf, Tells, live, run_of, wakes_of, with_wakes};
 ghost use Rattle.worker_connections.specs.Members.{HasTaker, TakesIn as WouldTake, one_called_if};
 ghost use Rattle.worker_bells.specs.Wishing.{IsWished};
-ghost use Rattle.worker_connections.specs.Sweeping.{AreTicked, Begins, HasGone, IsInTime, Notes, WaitsInTime, looked};
+ghost use Rattle.worker_connections.specs.Sweeping.{AreTicked, Begins, HasGone, IsInTime, Notes, WaitsInTime, looked, sweep_period};
 
 use crate::admission::Admission;
 use crate::admitting::{settle, take_in};
@@ -32,7 +32,7 @@ use conn_service::Direction;
 use shared_supply::{GroupTally, SharedSupply, SupplyParts, Wakes};
 use std::marker::Model;
 use std::sync::Wait;
-use transport::{Crossing, Transport};
+use transport::{Clock, Crossing, Transport};
 use worker_bells::{Members, SLOTS};
 
 /// The connections that a worker received, each in a cell of its table as long as it is open, what they ask of the broker, and where the worker waits for them.
@@ -74,7 +74,7 @@ impl<'a, 'g, B: Broker, N: HistoryName, T: Transport + Drop, Q: Poller<T>, R: Wa
 
     ghost invariant = { λ c. IsAccounted (length c.receiver.received) c.table c.served × AreSwept c.sweeps c.table
         × (length c.members ≡ length c.table) × AreWished c.table c.members
-        × HasRunTo B.group (record { saw_ledger = B.Seen.saw_ledger; saw_main = B.Seen.saw_main; saw_returns = B.Seen.saw_returns }) T.counts T.given T.accepted (record { first = c.first; supply = c.supply; cells = c.table; received = c.receiver.received; served = c.served; closed = Q.closed c.poller }) };
+        × HasRunTo B.group (record { saw_ledger = B.Seen.saw_ledger; saw_main = B.Seen.saw_main; saw_returns = B.Seen.saw_returns }) T.counts T.given T.accepted (record { first = c.first; supply = c.supply; cells = c.table; received = c.receiver.received; served = c.served; closed = Q.closed c.poller; latest = c.sweeps.latest }) };
 }
 
 impl<'a, 'g, B: Broker, N: HistoryName, T: Transport + Drop, Q: Poller<T>, R: Wait> Connections<
@@ -135,13 +135,6 @@ impl<'a, 'g, B: Broker, N: HistoryName, T: Transport + Drop, Q: Poller<T>, R: Wa
         ensures { result ≡ true → IsDone self.now }
     {
         self.receiver.is_ended() && self.table.is_empty()
-    }
-
-    /// The worker looked at its clock, which told this moment.
-    pub fn look(&mut self, now: u64)
-        ensures { self.new ≡ record self.old { sweeps = looked now self.old.sweeps } }
-    {
-        self.sweeps.look(now);
     }
 
     /// Whether each of them is to go on. Then a sweep begins, in which they do so one after the other.
@@ -244,11 +237,15 @@ impl<'a, 'g, B: Broker, N: HistoryName, T: Transport + Drop, Q: Poller<T>, R: Wa
         self.supply.take_wakes()
     }
 
-    /// Waits until something may be read or written, or the worker is called, or for so many milliseconds. Whether it was called.
-    pub fn wait(&mut self, rt: &R, at_most: u64) -> bool
-        ensures { self.new ≡ self.old }
+    /// Waits until something may be read or written, or the worker is called, or for so many milliseconds, and then looks at the worker's clock. Whether it was called.
+    pub fn wait<C: Clock>(&mut self, rt: &R, at_most: u64, clock: &mut C) -> bool
+        requires owes { OwesNothing (run_of self.old) }
+        requires in_time { at_most ≤ sweep_period }
+        ensures { (now : ℕ) × (self.new ≡ record self.old { sweeps = looked now self.old.sweeps }) }
     {
-        self.poller.wait(rt, at_most)
+        let called = self.poller.wait(rt, at_most);
+        self.sweeps.look(clock.now());
+        called
     }
 
     /// The cell of a connection that may be read or written, by the last wait.

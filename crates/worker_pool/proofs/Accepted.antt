@@ -1,12 +1,14 @@
 -- What was accepted goes on.
-use Rattle.std.proofs.Common.{◌≡◌, ℕ, List, [], ◌∷◌, ◌++◌, length, Option, Some, None, refl, sym, ap, ◌∙◌, append-nil, append_assoc, length-append, arith}
+use Rattle.std.proofs.Common.{◌≡◌, ◌≢◌, ◌+◌, ℕ, List, [], ◌∷◌, ◌++◌, length, Option, Some, None, refl, sym, ap, subst, inl, inr, ◌∙◌, append-nil, append_assoc, length-append, arith}
 use Rattle.std.specs.Prelude.{option_map}
 use Rattle.transport.specs.declared.answers.Arrival.TheVariants.{Came}
 use Rattle.transport.specs.declared.counts.Tally.{Tally}
 use Rattle.transport.specs.Counting.{after_arrival, after_came}
 use Rattle.conn_channel.specs.Ends.{SenderState}
 use Rattle.worker_connections.specs.Arrivals.{ArrivedState}
-use Rattle.worker_pool.specs.Accepting.{AcceptorState, HasAccepted, OnlyMarks, arrivals}
+use Rattle.worker_pool.specs.declared.accepting.SourceEnd.{SourceEnd}
+use Rattle.worker_pool.specs.declared.accepting.SourceEnd.TheVariants as ends
+use Rattle.worker_pool.specs.Accepting.{AcceptorState, EndedAs, HasAccepted, OnlyMarks, TellsEnd, arrivals}
 
 arrivals-append : {T : Type 0} (limit : ℕ) (these those : List T) → arrivals limit (these ++ those) ≡ arrivals limit these ++ arrivals limit those
 arrivals-append limit [] those = refl
@@ -52,7 +54,7 @@ module _ {T S : Type 0} (tally : S → Tally) (arrived : S → Option (List T)) 
   pub one : (old : AcceptorState T S) (source : S) (sender : SenderState (ArrivedState T)) (transport : T) → tally source ≡ after_arrival (Came transport) (tally old.source)
       → arrived source ≡ after_came (Came transport) (arrived old.source)
       → sender ≡ record old.sender { sent = old.sender.sent ++ record { transport = transport; max_inflight = old.max_inflight } ∷ [] }
-      → HasAccepted tally arrived old (record { source = source; sender = sender; max_inflight = old.max_inflight })
+      → HasAccepted tally arrived old (record { source = source; sender = sender; max_inflight = old.max_inflight; end = old.end })
   one old source sender transport counted told is = record {
     channel = ap (λ (s : SenderState (ArrivedState T)). s.channel) is;
     receivers = ap (λ (s : SenderState (ArrivedState T)). s.receivers) is;
@@ -79,3 +81,15 @@ module _ {T S : Type 0} (tally : S → Tally) (arrived : S → Option (List T)) 
         gave = two.gave ∙ ap (λ known. option_map (λ all. all ++ two.came) known) one.gave ∙ more_given (arrived old.source) one.came two.came;
         each = omega (arith, one.each, two.each, length-append one.came two.came);
       }
+
+  -- it ended so after a while in which it did not fail
+  pub after : (end : SourceEnd) (old mid new : S) → end ≢ ends.Untouched → (tally mid).failures ≡ (tally old).failures → EndedAs tally end mid new → EndedAs tally end old new
+  after ends.Ended old mid new asked none ended = ended ∙ none
+  after ends.Failed old mid new asked none (inl once) = inl (once ∙ ap (λ n. n + 1) none)
+  after ends.Failed old mid new asked none (inr limit) = inr (limit.0 ∙ none, limit.1)
+  after ends.Untouched old mid new asked none ended = absurd (asked refl)
+
+  -- who tells the same of the same source tells it too
+  pub still : (old mid new : AcceptorState T S) → new.source ≡ mid.source → new.end ≡ mid.end → TellsEnd tally old mid → TellsEnd tally old new
+  still old mid new source end tells first =
+      subst (λ (s : S). EndedAs tally new.end old.source s) (sym source) (subst (λ (e : SourceEnd). EndedAs tally e old.source mid.source) (sym end) (tells first))

@@ -1,14 +1,18 @@
 -- Who takes connections from a source, and sends them to workers.
-use Rattle.std.specs.Prelude.{◌≡◌, ℕ, ◌+◌, List, ◌++◌, length, map, Option, option_map}
+use Rattle.std.specs.Prelude.{◌≡◌, ◌⊎◌, ℕ, ◌+◌, List, ◌++◌, length, map, Option, option_map}
 use Rattle.transport.specs.declared.counts.Tally.{Tally}
+use Rattle.transport.specs.Counting.{MayCome}
 use Rattle.conn_channel.specs.Ends.{SenderState}
 use Rattle.worker_connections.specs.Arrivals.{ArrivedState}
+use Rattle.worker_pool.specs.declared.accepting.SourceEnd.{SourceEnd}
+use Rattle.worker_pool.specs.declared.accepting.SourceEnd.TheVariants as ends
 
--- who takes connections: their source, the end by which each of them is sent, and the most messages that the client of each may have unacknowledged
+-- who takes connections: their source, the end by which each of them is sent, the most messages that the client of each may have unacknowledged, and how the source ended
 pub record AcceptorState (T S : Type 0) : Type 0 where
   pub source : S
   pub sender : SenderState (ArrivedState T)
   pub max_inflight : ℕ
+  pub end : SourceEnd
 
 -- connections on their way to workers, over these transports, with this limit
 abbrev pub arrivals : {T : Type 0} → ℕ → List T → List (ArrivedState T)
@@ -27,6 +31,16 @@ pub record HasAccepted {T S : Type 0} (tally : S → Tally) (arrived : S → Opt
   pub sent : new.sender.sent ≡ old.sender.sent ++ arrivals old.max_inflight came
   pub gave : Gave arrived old.source came new.source
   pub each : (tally new.source).arrivals ≡ (tally old.source).arrivals + length came
+
+-- how a source ended, as its failures tell: there is one more where it failed, unless it may not be asked again; none more where it had ended; and it is as it was where nothing was taken from it
+abbrev pub EndedAs : {S : Type 0} → (S → Tally) → SourceEnd → S → S → Type 0
+EndedAs tally ends.Ended old new = (tally new).failures ≡ (tally old).failures
+EndedAs tally ends.Failed old new = ((tally new).failures ≡ (tally old).failures + 1) ⊎ (((tally new).failures ≡ (tally old).failures) × ¬ MayCome (tally new))
+EndedAs tally ends.Untouched old new = new ≡ old
+
+-- who had not begun to take from it tells how the source ended
+abbrev pub TellsEnd : {T S : Type 0} → (S → Tally) → AcceptorState T S → AcceptorState T S → Type 0
+TellsEnd tally old new = old.end ≡ ends.Untouched → EndedAs tally new.end old.source new.source
 
 -- nothing but end marks was sent
 abbrev pub OnlyMarks : {T : Type 0} → SenderState T → SenderState T → Type 0

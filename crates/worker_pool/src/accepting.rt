@@ -1,8 +1,8 @@
 //! How connections are taken from a source and sent to workers.
-ghost use Rattle.std.specs.Prelude.{◌≡◌, ◌+◌, ◌≤◌, ◌++◌, [], ◌∷◌, length, IfSome};
+ghost use Rattle.std.specs.Prelude.{◌≡◌, ◌≢◌, ◌+◌, ◌≤◌, ◌++◌, [], ◌∷◌, length, IfSome, MatchOption};
 ghost use Rattle.gate_word.specs.Calls.{Looks, Shuts};
 ghost use Rattle.gate_word.specs.Seats.{AreSeatsOf};
-ghost use Rattle.worker_pool.specs.Accepting.{HasAccepted, OnlyMarks};
+ghost use Rattle.worker_pool.specs.Accepting.{EndedAs, HasAccepted, OnlyMarks, TellsEnd};
 
 use bell::Wake;
 use broker_groups::Broker;
@@ -131,7 +131,7 @@ impl<'a, B: Broker, T: Transport + Drop, S: Source<T>, W> Model for Acceptor<'a,
 
     ghost Value = { AcceptorState T S };
 
-    ghost view = { λ a. record { source = a.source; sender = a.sender; max_inflight = a.max_inflight } };
+    ghost view = { λ a. record { source = a.source; sender = a.sender; max_inflight = a.max_inflight; end = a.end } };
 
     ghost invariant = { λ a. (a.is_closed ≡ false → a.sender.end_marks_sent ≡ 0) × (a.came ≡ length a.sender.sent) × (a.came ≤ (S.tally a.source).arrivals) };
 }
@@ -146,7 +146,7 @@ impl<'a, B: Broker, T: Transport + Drop, S: Source<T>, W> Acceptor<'a, B, T, S, 
         max_inflight: MaxInflight,
     ) -> Acceptor<'a, B, T, S, W>
         requires { (sender.sent ≡ []) × (sender.end_marks_sent ≡ 0) }
-        ensures { result ≡ record { source = source; sender = sender; max_inflight = max_inflight } }
+        ensures { result ≡ record { source = source; sender = sender; max_inflight = max_inflight; end = SourceEnd.Untouched } }
     {
         Acceptor {
             source,
@@ -172,6 +172,7 @@ impl<'a, B: Broker, T: Transport + Drop, S: Source<T>, W> Acceptor<'a, B, T, S, 
         ensures sender { result.0 ≡ self.entry.sender }
         ensures source { result.1.source ≡ self.entry.source }
         ensures came { result.1.came ≡ length self.entry.sender.sent }
+        ensures ends { result.1.end ≡ self.entry.end }
     {
         let Acceptor {
             source,
@@ -191,7 +192,8 @@ impl<'a, B: Broker, T: Transport + Drop, S: Source<T>, W: Wake> Acceptor<'a, B, 
     /// Once every worker has begun, takes connections from the source until it has ended or failed, and sends each for the worker that has the fewest. Then the
     /// broker closes: where the source had not ended, the gate is shut; every worker is called, and is sent its end mark.
     pub(crate) fn accept_all<R: Wait + Clock>(&mut self, rt: &R)
-        ensures { HasAccepted S.tally S.arrived self.old self.new }
+        ensures accepted { HasAccepted S.tally S.arrived self.old self.new }
+        ensures ends { TellsEnd S.tally self.old self.new }
     {
         self.accept_begun(rt);
         self.shut_unless_ended();
@@ -200,7 +202,8 @@ impl<'a, B: Broker, T: Transport + Drop, S: Source<T>, W: Wake> Acceptor<'a, B, 
 
     /// Once every worker has begun, takes connections until the source has ended or failed; none where a worker does not begin in time.
     fn accept_begun<R: Wait + Clock>(&mut self, rt: &R)
-        ensures { HasAccepted S.tally S.arrived self.old self.new }
+        ensures accepted { HasAccepted S.tally S.arrived self.old self.new }
+        ensures ends { TellsEnd S.tally self.old self.new }
     {
         if all_begin(rt, self.mailboxes) {
             self.end = self.accept(rt);
@@ -218,7 +221,8 @@ impl<'a, B: Broker, T: Transport + Drop, S: Source<T>, W: Wake> Acceptor<'a, B, 
 
     /// Takes connections until the source has ended or failed.
     fn accept<R: Wait + Clock>(&mut self, rt: &R) -> SourceEnd
-        ensures { HasAccepted S.tally S.arrived self.old self.new }
+        ensures accepted { HasAccepted S.tally S.arrived self.old self.new }
+        ensures ends { EndedAs S.tally result self.old.source self.new.source }
     {
         'arrivals: for _ in rt.forever() {
             match self.mailboxes.least_full() {
@@ -235,7 +239,9 @@ impl<'a, B: Broker, T: Transport + Drop, S: Source<T>, W: Wake> Acceptor<'a, B, 
 
     /// Takes what the source gives next, and sends it for this worker. How the source ended, if it did.
     fn accept_one<R: Wait>(&mut self, rt: &R, worker: usize) -> Option<SourceEnd>
-        ensures { HasAccepted S.tally S.arrived self.old self.new }
+        ensures accepted { HasAccepted S.tally S.arrived self.old self.new }
+        ensures ends { MatchOption result ((S.tally self.new.source).failures ≡ (S.tally self.old.source).failures) (λ end. EndedAs S.tally end self.old.source self.new.source) }
+        ensures asked { IfSome result (λ end. end ≢ SourceEnd.Untouched) }
     {
         if self.is_closed {
             return Some(SourceEnd::Ended);
@@ -259,7 +265,8 @@ impl<'a, B: Broker, T: Transport + Drop, S: Source<T>, W: Wake> Acceptor<'a, B, 
 
     /// Tells every worker that the broker closes, and sends each its end mark.
     fn close<R: Wait>(&mut self, rt: &R)
-        ensures { HasAccepted S.tally S.arrived self.old self.new }
+        ensures accepted { HasAccepted S.tally S.arrived self.old self.new }
+        ensures same { self.new ≡ record self.old { sender = self.new.sender } }
     {
         self.is_closed = true;
         self.mailboxes.close();

@@ -3,7 +3,7 @@ ghost use Rattle.std.specs.Prelude.{◌≡◌, ◌+◌, ◌*◌, ◌<◌, ◌≤
 ghost use Rattle.broker_worker.specs.Parts.{ArePartsOf};
 ghost use Rattle.conn_channel.specs.Ends.{AreOf, end_marks_received_by};
 ghost use Rattle.worker_connections.specs.Handles.{IsUnused};
-ghost use Rattle.worker_pool.specs.Accepting.{Gave, arrivals};
+ghost use Rattle.worker_pool.specs.Accepting.{EndedAs, Gave, arrivals};
 ghost use Rattle.worker_pool.specs.Pools.{AreAllCounted, AreServed, CountsAll, HaveEnded, total_in};
 ghost use Rattle.worker_pool.specs.Workers.{AreNumbered, HasServed, IsHired};
 
@@ -87,6 +87,7 @@ where
     requires routes { routes.old.table ≡ shared_broker.now }
     ensures handles { MatchResult result (λ pooled. length pooled.handles.items ≡ length handles.items) (λ unbegun. length unbegun.handles.items ≡ length handles.items) }
     ensures taken { IfOk result (λ pooled. (S.tally pooled.taken.source).arrivals ≡ (S.tally source).arrivals + pooled.taken.came) }
+    ensures ends { IfOk result (λ pooled. EndedAs S.tally pooled.taken.end source pooled.taken.source) }
     ensures served { IfOk result (λ pooled. (came : List T) × Gave S.arrived source came pooled.taken.source × (pooled.taken.came ≡ length came)
         × AreServed B.group B.Seen.Witness T.counts T.given T.accepted (arrivals setup.entry.max_inflight came) routes.new.told (map (λ handle. handle.ports) pooled.handles.items) (map (λ handle. handle.desk) pooled.handles.items) pooled.served.items (map Q.closed pooled.pollers.items)) }
     ensures counted { IfOk result (λ pooled. pooled.taken.came < 2 ^ 64 → pooled.taken.came ≡ total_in pooled.served.items) }
@@ -272,6 +273,7 @@ fn retire<
     ensures handles { length result.handles.items ≡ length workers.entry.items }
     ensures source { result.taken.source ≡ acceptor.entry.source }
     ensures came { result.taken.came ≡ length acceptor.entry.sender.sent }
+    ensures ends { result.taken.end ≡ acceptor.entry.end }
     ensures served { AreServed B.group B.Seen.Witness T.counts T.given T.accepted acceptor.entry.sender.sent routes.new.told (map (λ handle. handle.ports) result.handles.items) (map (λ handle. handle.desk) result.handles.items) result.served.items (map Q.closed result.pollers.items) }
     ensures counted { CountsAll result.taken.came result.served.items }
     ensures routes { routes.new ≡ record routes.old { told = routes.new.told } }

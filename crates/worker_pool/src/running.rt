@@ -1,6 +1,6 @@
 //! What the threads of a pool do.
 ghost use Rattle.std.specs.Prelude.{◌<◌, ℕ, length, slice_index_or};
-ghost use Rattle.worker_pool.specs.Accepting.{HasAccepted};
+ghost use Rattle.worker_pool.specs.Accepting.{HasAccepted, TellsEnd};
 ghost use Rattle.worker_pool.specs.Workers.{HaveRun};
 
 use crate::accepting::Acceptor;
@@ -28,9 +28,9 @@ trait Labour<R> {
 
 impl<'a, B: Broker, T: Transport + Drop, S: Source<T>, W: Wake, R: Wait + SystemClock> Labour<R>
     for Acceptor<'a, B, T, S, W> {
-    ghost use Rattle.worker_pool.specs.Accepting.{HasAccepted};
+    ghost use Rattle.worker_pool.specs.Accepting.{HasAccepted, TellsEnd};
 
-    ghost has_run = { λ old new. HasAccepted S.tally S.arrived old new };
+    ghost has_run = { λ old new. HasAccepted S.tally S.arrived old new × TellsEnd S.tally old new };
 
     fn labour(&mut self, rt: &R) {
         self.accept_all(rt);
@@ -87,6 +87,7 @@ pub(crate) fn run_all<
 where
     B::Seen: Send + Sync,
     ensures accepted { HasAccepted S.tally S.arrived acceptor.old acceptor.new }
+    ensures ends { TellsEnd S.tally acceptor.old acceptor.new }
     ensures watched { D.has_watched watch.old watch.new input.old input.new }
     ensures run { HaveRun workers.old.items workers.new.items }
 {

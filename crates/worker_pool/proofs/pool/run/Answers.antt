@@ -3,7 +3,8 @@ use Rattle.std.proofs.Common.{List, map, All, sym, subst, ◌∙◌, ap, arith}
 use Rattle.conn_channel.specs.Ends.{ChannelId}
 use Rattle.worker_connections.specs.declared.handle.WorkerHandle.{WorkerHandle}
 use Rattle.worker_connections.specs.Arrivals.{ArrivedState}
-use Rattle.worker_pool.specs.Accepting.{AcceptorState, Gave}
+use Rattle.worker_pool.specs.declared.accepting.SourceEnd.{SourceEnd}
+use Rattle.worker_pool.specs.Accepting.{AcceptorState, EndedAs, Gave}
 use Rattle.worker_pool.specs.Pools.{AreServed}
 use Rattle.worker_pool.specs.Workers.{HasServed}
 use Rattle.worker_pool.proofs.Accepted.{came_count, sent_is}
@@ -36,6 +37,16 @@ returns-clause-taken g c =
     let none = ap (λ (a : AcceptorState g.row.T.Denot g.row.S.Denot). a.sender.sent) c.new-acceptor.ensures ∙ c.in-Ok.ensures.sender.1 in
     let count = came_count _ accepted.came _ _ none accepted.sent in
     omega (arith, source, before, count, c.retire.ensures.came, accepted.each)
+
+pub returns-clause-ends : goal.returns-clause-ends
+returns-clause-ends g c =
+    let first = c.new-acceptor.ensures in
+    let last = c.run_all.new.acceptor in
+    let told = c.run_all.ensures.ends (ap (λ (a : AcceptorState g.row.T.Denot g.row.S.Denot). a.end) first) in
+    let Ended : SourceEnd → g.row.S.Denot → g.row.S.Denot → Type 0 = λ end old new. EndedAs g.S.Source.tally end old new in
+    subst (λ new. Ended c.retire.result.taken.end c.args.source new) (sym c.retire.ensures.source)
+    (subst (λ end. Ended end c.args.source last.source) (sym c.retire.ensures.ends)
+    (subst (λ old. Ended last.end old last.source) (ap (λ (a : AcceptorState g.row.T.Denot g.row.S.Denot). a.source) first) told))
 
 pub returns-clause-served : goal.returns-clause-served
 returns-clause-served g c =

@@ -22,7 +22,7 @@ invariant_of-self g c =
           (g.Q.Poller.closed c.self.inside.poller) (g.Q.Poller.closed c.take_in.new.poller) c.self.inside.first c.self.inside.sweeps c.self.invariant.1 c.take_in.ensures.taken,
       wished.0,
       wished.1,
-      comes g.B.Broker.group (record { saw_ledger = g.B.Seen.LedgerWitness.saw_ledger; saw_main = g.B.Seen.Witness.saw_main; saw_returns = g.B.Seen.Witness.saw_returns }) g.T.Transport.counts g.T.Transport.given g.T.Transport.accepted c.self.inside.first _ c.self.inside.supply c.self.inside.table c.take_in.new.table
+      comes g.B.Broker.group (record { saw_ledger = g.B.Seen.LedgerWitness.saw_ledger; saw_main = g.B.Seen.Witness.saw_main; saw_returns = g.B.Seen.Witness.saw_returns }) g.T.Transport.counts g.T.Transport.given g.T.Transport.accepted c.self.inside.first c.self.inside.sweeps.latest _ c.self.inside.supply c.self.inside.table c.take_in.new.table
           c.self.inside.receiver.received c.receive.new.self.received c.self.inside.served c.take_in.new.served
-          (g.Q.Poller.closed c.self.inside.poller) (g.Q.Poller.closed c.take_in.new.poller) c.self.inside.sweeps.latest is c.self.invariant.4 c.take_in.ensures.taken,
+          (g.Q.Poller.closed c.self.inside.poller) (g.Q.Poller.closed c.take_in.new.poller) is c.self.invariant.4 c.take_in.ensures.taken,
     )

@@ -1,13 +1,19 @@
--- Nothing was closed, and the run is as it was.
+-- It owed nothing, and waited; nothing was closed, and it looked at its clock.
+use Rattle.std.proofs.Common.{ap, subst, sym}
+use Rattle.worker_connections.specs.Chains.{OwesNothing}
+use Rattle.worker_connections.specs.Serving.{ConnectionsState, run_of}
+use Rattle.worker_connections.specs.declared.sweeps.Sweeps.{Sweeps}
 use Rattle.worker_connections.proofs.Chaining.{waits_on}
+use Rattle.worker_connections.proofs.Swept.{looks}
 use Rattle.worker_connections.proofs.connections.Connections.wait.Goals as goal
 
 pub invariant_of-self : goal.invariant_of-self
 invariant_of-self g c = (
   c.self.invariant.0,
-  c.self.invariant.1,
+  looks c.self.inside.table c.self.inside.sweeps c.look.new.self c.now.result c.self.invariant.1 c.look.ensures,
   c.self.invariant.2,
   c.self.invariant.3,
-  waits_on g.B.Broker.group (record { saw_ledger = g.B.Seen.LedgerWitness.saw_ledger; saw_main = g.B.Seen.Witness.saw_main; saw_returns = g.B.Seen.Witness.saw_returns }) g.T.Transport.counts g.T.Transport.given g.T.Transport.accepted c.self.inside.first c.self.inside.supply c.self.inside.table c.self.inside.receiver.received c.self.inside.served
-      (g.Q.Poller.closed c.self.inside.poller) (g.Q.Poller.closed c.wait.new.self) c.wait.ensures c.self.invariant.4,
+  waits_on g.B.Broker.group (record { saw_ledger = g.B.Seen.LedgerWitness.saw_ledger; saw_main = g.B.Seen.Witness.saw_main; saw_returns = g.B.Seen.Witness.saw_returns }) g.T.Transport.counts g.T.Transport.given g.T.Transport.accepted c.self.inside.first c.self.inside.sweeps.latest c.args.at_most c.now.result c.look.new.self.latest c.self.inside.supply c.self.inside.table
+      c.self.inside.receiver.received c.self.inside.served (g.Q.Poller.closed c.self.inside.poller) (g.Q.Poller.closed c.wait-called.new.self)
+      (subst (λ (state : ConnectionsState g.row.T.Denot). OwesNothing (run_of state)) (sym c.self.view_is) c.requires.owes) c.requires.in_time c.wait-called.ensures (ap (λ (s : Sweeps). s.latest) c.look.ensures) c.self.invariant.4,
 )
