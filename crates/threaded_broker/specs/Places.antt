@@ -37,19 +37,19 @@ only_by Refused Acknowledged times = 0
 -- how often a call hands the message with this job to that place for the first time, and again; how often the place gives it back by that call, and settles it by this fate
 abbrev pub first_handed : (slot number : ℕ) → Job → SupplyCall PlaceState → ℕ
 first_handed slot number job (Take old new answer) = only_at slot number old (once_in job answer)
-first_handed slot number job other = 0
+first_handed slot number job _ = 0
 
 abbrev pub handed_again : (slot number : ℕ) → Job → SupplyCall PlaceState → ℕ
 handed_again slot number job (TakeBack old new answer) = only_at slot number old (once_in job answer)
-handed_again slot number job other = 0
+handed_again slot number job _ = 0
 
 abbrev pub given_back : (slot number : ℕ) → Job → SupplyCall PlaceState → ℕ
 given_back slot number job (GiveBack old new envelope answer) = only_at slot number old (once_taken job envelope answer)
-given_back slot number job other = 0
+given_back slot number job _ = 0
 
 abbrev pub settled_by : (slot number : ℕ) → Fate → Job → SupplyCall PlaceState → ℕ
 settled_by slot number fate job (Settle old new envelope its) = only_at slot number old (only_by fate its (once_as job envelope))
-settled_by slot number fate job other = 0
+settled_by slot number fate job _ = 0
 
 -- how often these calls do, of all workers together
 abbrev pub in_all : (SupplyCall PlaceState → ℕ) → List (List (SupplyCall PlaceState)) → ℕ

@@ -47,7 +47,7 @@ module _ {T : Type 0} (group : ℕ → GroupId) (seen : Sights) where
   AreOfAct (GivesUp now) old supply calls new supply' = AreOfTheLast old supply calls new supply'
   AreOfAct (Asks is_kicked) old supply calls new supply' = calls ≡ Kicked old.client.conn.number is_kicked ∷ []
   AreOfAct Others old supply calls new supply' = ⊥
-  AreOfAct other old supply calls new supply' = calls ≡ []
+  AreOfAct _ old supply calls new supply' = calls ≡ []
 
 module _ {T : Type 0} (group : ℕ → GroupId) (seen : Sights) (counts : T → Counts) (given accepted : T → Option (List ℕ)) where
   -- those of these acts, one after the other
@@ -66,7 +66,7 @@ module _ {T : Type 0} (group : ℕ → GroupId) (seen : Sights) (counts : T → 
   -- those of a deed, which are those of its round, where it is one
   abbrev pub AreOfDeed : Deed T → RunState T → List (SupplyCall PlaceState) → RunState T → Type 0
   AreOfDeed (MadeRound cell now acts how) old calls new = InCell old.cells cell (AreOfRound acts how old.supply calls new.supply) new.cells
-  AreOfDeed other old calls new = calls ≡ []
+  AreOfDeed _ old calls new = calls ≡ []
 
   -- those of these deeds, one after the other
   abbrev pub AreOfDeeds : List (Deed T) → RunState T → List (SupplyCall PlaceState) → RunState T → Type 0
