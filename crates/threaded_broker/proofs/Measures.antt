@@ -31,7 +31,7 @@ use Rattle.shared_supply.specs.Calls.{Calls}
 use Rattle.shared_supply.specs.Settling.{Gathers, IsDue, SettlesAndGathers, runs_at}
 use Rattle.shared_supply.specs.Workers.{Worker}
 use Rattle.final_report.specs.Messages.{times_first_handed, times_handed_again, times_given_back, times_settled_at}
-use Rattle.threaded_broker.specs.Places.{first_handed, given_back, handed_again, once_as, once_in, once_taken, only_at, only_by, settled_by}
+use Rattle.threaded_broker.specs.Places.{first_handed, given_back, handed_again, once_as, once_handed, once_taken, only_at, only_by, settled_there}
 use Rattle.threaded_broker.proofs.Balance.{Gains}
 
 -- of the place of this slot and number, how often it was handed the message with this job for the first time, and again, gave it back, and settled it
@@ -114,7 +114,7 @@ unchanged old new same = stays old new (same ∙ ap (λ (p : PlaceState). record
 
 -- it was handed a message, or not
 taken_more : (saw : List Posted → List View → Type 0) (answer : Result (Option Held) NoMemory) (old new : PlaceState) → TakeAnswers saw old (in_group answer) new
-    → DoesMore old new (λ job. once_in job answer) never never by_none
+    → DoesMore old new (λ job. once_handed job answer) never never by_none
 taken_more saw (Ok (Some envelope)) old new does = record {
   group = ap (λ (p : PlaceState). p.group) does.others;
   number = ap (λ (p : PlaceState). p.number) does.others;
@@ -131,7 +131,7 @@ taken_more saw (Err refusal) old new does = stays old new does.0.others (λ fate
 
 -- again, or not
 taken_back : (saw : List Posted → List Bag → Type 0) (answer : Result (Option Held) NoMemory) (old new : PlaceState) → TakeBackAnswers saw old (in_group answer) new
-    → DoesMore old new never (λ job. once_in job answer) never by_none
+    → DoesMore old new never (λ job. once_handed job answer) never by_none
 taken_back saw (Ok (Some envelope)) old new does = record {
   group = ap (λ (p : PlaceState). p.group) does.others;
   number = ap (λ (p : PlaceState). p.number) does.others;
@@ -226,7 +226,7 @@ settled_more saw envelope its is_missed old new does =
 module _ (group : ℕ → GroupId) (seen : Sights) (slot number : ℕ) (job : Job) where
   pub firsts_gain : (call : SupplyCall PlaceState) (before after : Worker) → Calls group seen before call after → Gains (first_at slot number job) (first_handed slot number job) call
   firsts_gain (Take old new answer) before after is =
-      let does = taken_more seen.saw_main answer old new is.0 in more_at slot number old new (times_first_handed job old) (times_first_handed job new) (once_in job answer) does.group does.number (does.first job)
+      let does = taken_more seen.saw_main answer old new is.0 in more_at slot number old new (times_first_handed job old) (times_first_handed job new) (once_handed job answer) does.group does.number (does.first job)
   firsts_gain (TakeBack old new answer) before after is =
       let does = taken_back seen.saw_returns answer old new is.0 in same_at slot number old new (times_first_handed job old) (times_first_handed job new) does.group does.number (omega (arith, does.first job))
   firsts_gain (Settle old new envelope fate) before after is =
@@ -256,7 +256,7 @@ module _ (group : ℕ → GroupId) (seen : Sights) (slot number : ℕ) (job : Jo
       same_at slot number old new (times_handed_again job old) (times_handed_again job new) does.group does.number (omega (arith, does.again job))
   agains_gain (TakeBack old new answer) before after is =
       let does = taken_back seen.saw_returns answer old new is.0 in
-      more_at slot number old new (times_handed_again job old) (times_handed_again job new) (once_in job answer) does.group does.number (does.again job)
+      more_at slot number old new (times_handed_again job old) (times_handed_again job new) (once_handed job answer) does.group does.number (does.again job)
   agains_gain (Settle old new envelope fate) before after is =
       let does = settled_more seen.saw_ledger envelope fate is.0 old new is.1 in
       same_at slot number old new (times_handed_again job old) (times_handed_again job new) does.group does.number (omega (arith, does.again job))
@@ -308,7 +308,7 @@ module _ (group : ℕ → GroupId) (seen : Sights) (slot number : ℕ) (job : Jo
   given_gain (Offer its connection message answer) before after is = refl
   given_gain (MayTake place answer) before after is = refl
 
-  pub settled_gain : (its : Fate) (call : SupplyCall PlaceState) (before after : Worker) → Calls group seen before call after → Gains (settled_at slot number its job) (settled_by slot number its job) call
+  pub settled_gain : (its : Fate) (call : SupplyCall PlaceState) (before after : Worker) → Calls group seen before call after → Gains (settled_at slot number its job) (settled_there slot number its job) call
   settled_gain its (Take old new answer) before after is =
       let does = taken_more seen.saw_main answer old new is.0 in
       same_at slot number old new (times_settled_at its job old) (times_settled_at its job new) does.group does.number (omega (arith, does.fates its job))

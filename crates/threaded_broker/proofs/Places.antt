@@ -42,7 +42,7 @@ use Rattle.final_report.proofs.DeskPlaces.{no_place_lost}
 use Rattle.final_report.proofs.EachOnce.{sum_each_once}
 use Rattle.threaded_broker.specs.Callers.{DeskCallerState, HasPutIn, HasTakenIn}
 use Rattle.threaded_broker.specs.Headline.{KeepsTheHeadline, RunsUntilClosed}
-use Rattle.threaded_broker.specs.Places.{CameOfCalls, first_handed, given_back, handed_again, in_all, only_at, settled_by}
+use Rattle.threaded_broker.specs.Places.{CameOfCalls, first_handed, given_back, handed_again, in_all, only_at, settled_there}
 use Rattle.threaded_broker.proofs.Balance.{AreWithin, Gains, all_in, all_lost, all_out, one_added, own_sum, places_lost, still_within, sum_stays}
 use Rattle.threaded_broker.proofs.Measures.{agains_gain, firsts_gain, given_gain, none_at, once_gain, settled_gain}
 use Rattle.threaded_broker.proofs.RunBalance.{run_balances}
@@ -274,8 +274,8 @@ module _ {T : Type 0} (group : ℕ → GroupId) (seen : Sights) (counts : T → 
   each_came = All-at (CameOfCalls calls) places (λ k place is. record {
     first = λ job. did (times_first_handed job) (first_handed place.group place.number job) k place is (λ p is_new. ap (λ list. count_of job (jobs_in list)) is_new.firsts) (firsts_gain group seen place.group place.number job);
     again = λ job. did (times_handed_again job) (handed_again place.group place.number job) k place is (λ p is_new. ap (λ list. count_of job (jobs_in list)) is_new.agains) (agains_gain group seen place.group place.number job);
-    given = λ job. did (times_given_back job) (given_back place.group place.number job) k place is (λ p is_new. ap (λ list. count_of job (jobs_in list)) is_new.given) (given_gain group seen place.group place.number job);
-    settled = λ fate job. did (times_settled_at fate job) (settled_by place.group place.number fate job) k place is
+    returned = λ job. did (times_given_back job) (given_back place.group place.number job) k place is (λ p is_new. ap (λ list. count_of job (jobs_in list)) is_new.given) (given_gain group seen place.group place.number job);
+    settled = λ fate job. did (times_settled_at fate job) (settled_there place.group place.number fate job) k place is
         (λ p is_new.
         let docket = ap (λ list. count_of job (jobs_of list)) (is_new.settled fate) in
         let gave = ap (λ ledgers. times_in ledgers fate job) is_new.gathered in

@@ -28,7 +28,7 @@ use Rattle.final_report.specs.Brokers.{KeptItsPromisesBehind}
 
 module _ {T : Type 0} (group : ℕ → GroupId) (seen : Sights) (counts : T → Counts) (given accepted : T → Option (List ℕ)) where
   -- the run of a broker until it was closed: these connections came to its workers, these ports and counts the workers gave back, and these transports they closed, each as it
-  -- was then. The first caller of its desk, which had put the new places of the groups into it and did nothing else (`opened`), took in the workers' callers, and has the whole right to call then. At no moment of the run did a connection have more
+  -- was then. The first caller of its desk, which had put new places of the groups into it and did nothing else (`opened`), took in the workers' callers, and has the whole right to call then. At no moment of the run did a connection have more
   -- unacknowledged PUBLISH packets than its Receive Maximum, and than this limit (4.9); all that the ports accepted came of the PUBLISH packets that these connections
   -- stepped, each offered to the groups that match and answered as these took it (3.3.4); each asked the desk under the number of its cell; and at each act what is handed out is what is sent, and what is settled is what a
   -- PUBACK came for (4.4). The groups that match are those of these shares, slot by slot, as far as each worker knew them
@@ -52,9 +52,9 @@ module _ {T : Type 0} (group : ℕ → GroupId) (seen : Sights) (counts : T → 
   -- message that was accepted was first handed to at most one member (`first_once`), each member's first hand-outs from a publisher keep that publisher's order (`in_order`),
   -- a refused message went to nobody else (`refused_for_good`), and the report gives each accepted message exactly one fate (`one_fate`), which it had (`what_happened`). No
   -- connection had more unacknowledged PUBLISH packets than its Receive Maximum. Each of those calls put a place into the new desk, or was made in the run of one
-  -- worker, once (`opened`, `taken_in` and `each_call_once`): so no session and no place came out of the desk but by a deed. And each place that the desk had in the end did what the calls of the runs did there, and nothing
-  -- else (`came_of_calls`): it was handed a message, gave it back, or settled it, as often as a step of a connection did that at this place; what a step hands out goes out at once,
-  -- in a PUBLISH of its own, and what it settles is what the PUBACK came for (`calls_are`). The report of a slot is that of the share that is told at its place: to its group
+  -- worker, once (`opened`, `taken_in` and `each_call_once`): so no session and no place came out of the desk but by a deed. And each place that the desk had in the end (`promises.0`) did
+  -- what the calls of the runs did there, and nothing else (`came_of_calls`): it was handed a message, gave it back, or settled it, as often as a step of a connection did that at this
+  -- place; the messages that the calls of a step hand out are those of its PUBLISH packets with DUP 0, in their order, and what they settle is what the PUBACK came for (`calls_are`). The report of a slot is that of the share that is told at its place: to its group
   -- each worker offered what matches that share, from when it knew it. That nothing is handed out after close is said by the token of the drained gate
   pub record KeepsTheHeadline {W : Type 0} (workers max_inflight : ℕ) (came : List T) (before after : DeskCallerState) (shares : List Share) (answers : List (Result Report (Unfinished W)))
       (strangers : List Held) (served : List ServedCounts) (closed : List (Option (List T))) : Type 0 where

@@ -22,7 +22,7 @@ use std::sync::Wait;
 use worker_connections::WorkerHandle;
 
 /// A broker that is open: what its workers share, what each of them has, and the first caller of its desk. There are 1 to 64 workers, and nobody has used what they have: nothing was
-/// published through their ports, and they made no call of the desk. The first caller put the new places of the groups into the desk, and did nothing else.
+/// published through their ports, and they made no call of the desk. The first caller put new places of the groups into the desk, and did nothing else.
 ///
 /// Contracts see it as the number of its workers, with the first caller: together they have the whole right to call the desk.
 pub struct OpenBroker<'g, B: Broker, N: HistoryName> {

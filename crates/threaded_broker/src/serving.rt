@@ -98,6 +98,9 @@ pub struct Closed<'g, B: Broker, N: HistoryName, S, Q> {
 /// - a refused message went to nobody else (`refused_for_good`);
 /// - the report gives each accepted message exactly one fate, and nothing else any (`one_fate`), and that is the one that it had (`what_happened`).
 ///
+/// And each place did what the calls of the connections' steps did there, and nothing else (`came_of_calls`): these are one list for each run (`calls_are`), in which what a step hands out
+/// are its PUBLISH packets with DUP 0, and what it settles is what its PUBACK came for.
+///
 /// And of the broker:
 ///
 /// - no connection had more unacknowledged PUBLISH packets than its Receive Maximum, and than the limit given, at any moment of the run (`within_receive_maximum`);
