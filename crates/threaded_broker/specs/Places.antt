@@ -61,4 +61,3 @@ pub record CameOfCalls (calls : List (List (SupplyCall PlaceState))) (place : Pl
   pub again : (job : Job) → times_handed_again job place ≡ in_all (handed_again place.group place.number job) calls
   pub returned : (job : Job) → times_given_back job place ≡ in_all (given_back place.group place.number job) calls
   pub settled : (fate : Fate) (job : Job) → times_settled_at fate job place ≡ in_all (settled_there place.group place.number fate job) calls
-
