@@ -1,6 +1,5 @@
 -- What each call makes of the place that it changes: how often that was handed a message, gave it back, and settled it.
-use Rattle.std.proofs.Common.{◌≡◌, ◌≢◌, ℕ, ◌+◌, ◌<◌, ◌≤◌, ◌%◌, Bool, true, false, ◌&&◌, nat_eq, if◌then◌else◌, List, [], ◌∷◌, ◌++◌, map, Option, Some, None, Result, Ok, Err, refl, sym, ap, subst, ◌∙◌, ⊎_elim, inl, inr, arith}
-use Rattle.std.specs.Prelude.{sum_by}
+use Rattle.std.proofs.Common.{◌≡◌, ◌≢◌, ℕ, ◌+◌, ◌<◌, ◌≤◌, ◌%◌, Bool, true, false, ◌&&◌, nat_eq, if◌then◌else◌, List, [], ◌∷◌, ◌++◌, Option, Some, None, Result, Ok, Err, refl, sym, ap, ◌∙◌, ⊎_elim, arith}
 use Rattle.std.proofs.lemmas.Bool.{cases_eq, cases_lt}
 use Rattle.std.proofs.lemmas.List.{map-append}
 use Rattle.std.proofs.lemmas.List.Sums.{sum_by-append, sum_by-cons}
@@ -11,7 +10,7 @@ use Rattle.dispatch_core.proofs.Stored.{counts_permuted}
 use Rattle.group_jobs.specs.declared.fate.Fate.{Fate}
 use Rattle.group_jobs.specs.declared.fate.Fate.TheVariants.{Acknowledged, Refused}
 use Rattle.group_jobs.specs.declared.ledger.Ledger.{Ledger}
-use Rattle.group_jobs.specs.Settled.{Settles, list_of, settled_as}
+use Rattle.group_jobs.specs.Settled.{Settles, settled_as}
 use Rattle.group_jobs.specs.Stamps.{Held, job_of}
 use Rattle.group_jobs.specs.Dockets.{Kept}
 use Rattle.shared_ledger.specs.Giving.{times_in}
@@ -28,7 +27,7 @@ use Rattle.conn_supply.specs.declared.supply.NoMemory.{NoMemory}
 use Rattle.conn_supply.specs.SupplyCalls.{SupplyCall}
 use Rattle.conn_supply.specs.SupplyCalls.SupplyCall.{Attach, Withdraw, Kicked, Park, ParkAsIs, Keep, Bury, Sweep, LendPlace, TakePlace, Bind, Find, Match, Offer, MayTake, Take, TakeBack, Settle, GiveBack}
 use Rattle.shared_supply.specs.Calls.{Calls}
-use Rattle.shared_supply.specs.Settling.{Gathers, IsDue, SettlesAndGathers, runs_at}
+use Rattle.shared_supply.specs.Settling.{Gathers, SettlesAndGathers, runs_at}
 use Rattle.shared_supply.specs.Workers.{Worker}
 use Rattle.final_report.specs.Messages.{times_first_handed, times_handed_again, times_given_back, times_settled_at}
 use Rattle.threaded_broker.specs.Places.{first_handed, given_back, handed_again, once_as, once_handed, once_taken, only_at, only_by, settled_there}

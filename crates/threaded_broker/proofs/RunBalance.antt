@@ -22,7 +22,7 @@ use Rattle.conn_engine.specs.declared.phase.ConnPhase.{ConnPhase}
 use Rattle.conn_engine.specs.declared.phase.ConnPhase.TheVariants.{Ended}
 use Rattle.conn_engine.specs.declared.phase.Opening.{Opening}
 use Rattle.conn_laws.specs.Calls.{MakesAll as MakesCalls}
-use Rattle.conn_laws.specs.Places.{KeepsPlaces, brought, places_of, taken}
+use Rattle.conn_laws.specs.Places.{KeepsPlaces, places_of}
 use Rattle.client_table.specs.Clients.{ClientState}
 use Rattle.conn_service.specs.Acts.{Act, Enters, Leaves as Left, Asks, Reads, Writes, Steps, Loses, Fails, Starves, IsFull, IsStopped, Stalls, GivesUp, Ends, Others}
 use Rattle.conn_service.specs.Lives.{Does}
@@ -32,8 +32,8 @@ use Rattle.conn_service.specs.declared.served.Served.{Served}
 use Rattle.shared_supply.specs.Calls.{Calls}
 use Rattle.shared_supply.specs.Workers.{Worker, Begins, Leaves, is_visiting}
 use Rattle.worker_connections.specs.Arrivals.{opening_at}
-use Rattle.worker_connections.specs.Cells.{InCell, Opens}
-use Rattle.worker_connections.specs.Chains.{Deed, Opened, Closed, Allowed, MadeRound, Passed, Called, Notified, NotifiedAll, Waited, IsFirst, IsWholeRun, LeavesCell, Makes, Run, RunState}
+use Rattle.worker_connections.specs.Cells.{Opens}
+use Rattle.worker_connections.specs.Chains.{Deed, Opened, Closed, Allowed, MadeRound, Passed, Called, Notified, NotifiedAll, Waited, IsWholeRun, LeavesCell, Makes, Run, RunState}
 use Rattle.worker_connections.specs.RunCalls.{AreOfAct, AreOfActs, AreOfDeed, AreOfDeeds, AreOfFailure, AreOfStep, AreOfTheLast, AreCallsOf}
 use Rattle.final_report.specs.DeskPlaces.{worth_if, places_in, places_out}
 use Rattle.threaded_broker.specs.Callers.{DeskCallerState}
