@@ -27,7 +27,7 @@ use Rattle.conn_engine.specs.declared.phase.ConnPhase.TheVariants.{Unconnected, 
 use Rattle.conn_engine.specs.Connecting.{RetiresEarlier, Withdraws}
 use Rattle.conn_engine.specs.Ending.{down, GivesBack, Ends, RetiresAs, Retires, PartsAs, Sweeps}
 use Rattle.conn_laws.specs.Calls.{offer_of, match_of, settlement_of, hand_out_of, offered, matched, settled, handed, MakesAll}
-use Rattle.conn_laws.specs.Places.{brought, taken, KeepsPlaces}
+use Rattle.conn_laws.specs.Places.{places_brought, places_taken, KeepsPlaces}
 use Rattle.conn_laws.specs.Transcripts.{IsAside}
 use Rattle.conn_laws.proofs.KeptPlaces.{kept_by_none, kept_by_one, kept_by_both, kept_beside}
 
@@ -80,7 +80,7 @@ module _ {S P : Type 0} (call : S → SupplyCall P → S → Type 0) where
 
   -- one call, by which this is handed out, if anything is
   pub hand : (hand_out : Option (P × Held)) (old new : S) (supply_call : SupplyCall P) → call old supply_call new → IsAside supply_call → match_of supply_call ≡ None → offer_of supply_call ≡ None → settlement_of supply_call ≡ None
-      → hand_out_of supply_call ≡ hand_out → Aside (filter_map (λ (o : Option (P × Held)). o) (hand_out ∷ [])) (taken supply_call) (brought supply_call) old new
+      → hand_out_of supply_call ≡ hand_out → Aside (filter_map (λ (o : Option (P × Held)). o) (hand_out ∷ [])) (places_taken supply_call) (places_brought supply_call) old new
   hand hand_out old new supply_call called is_aside no_match no_offer no_settlement hands =
       record {
         supply_calls = supply_call ∷ [];
@@ -94,7 +94,7 @@ module _ {S P : Type 0} (call : S → SupplyCall P → S → Type 0) where
       }
 
   pub one : (old new : S) (supply_call : SupplyCall P) → call old supply_call new → IsAside supply_call → match_of supply_call ≡ None → offer_of supply_call ≡ None → settlement_of supply_call ≡ None → hand_out_of supply_call ≡ None
-      → Aside [] (taken supply_call) (brought supply_call) old new
+      → Aside [] (places_taken supply_call) (places_brought supply_call) old new
   one old new supply_call called is_aside no_match no_offer no_settlement no_hand_out = hand None old new supply_call called is_aside no_match no_offer no_settlement no_hand_out
 
   pub after : {before between behind : List P} (given more : List (P × Held)) (old mid new : S) → Aside given before between old mid → Aside more between behind mid new → Aside (given ++ more) before behind old new

@@ -10,7 +10,7 @@ use Rattle.group_jobs.specs.Stamps.{Held}
 use Rattle.group_jobs.specs.declared.message.Message.{Message}
 use Rattle.member_window.specs.Contents.{Contents, after_put}
 use Rattle.conn_rules.specs.declared.terms.Terms.{Terms}
-use Rattle.session_desk.specs.Everything.{place_in, place_of}
+use Rattle.session_desk.specs.Everything.{place_in, place_of, places_given}
 use Rattle.session_desk.specs.declared.attached.Attached.{Attached}
 use Rattle.session_desk.specs.declared.attached.Attached.TheVariants.{New, Resumed, Replace, Busy}
 use Rattle.session_desk.specs.declared.error.DeskError.{DeskError}
@@ -26,7 +26,7 @@ use Rattle.conn_engine.specs.declared.phase.ConnPhase.{ConnPhase}
 use Rattle.conn_engine.specs.Connecting.{opened, has_place, most_ticks, RetiresEarlier, WaitsAs, ResumesAs, AttachedAs, Attaches, FailsWith, FailsToAttach, TriesAgain, FailsAgain}
 use Rattle.conn_engine.specs.Ending.{Parts, Sweeps}
 use Rattle.conn_laws.specs.Calls.{offer_of, match_of, settlement_of, hand_out_of, offered, matched, settled, handed, messages_of, fresh_messages, MakesAll}
-use Rattle.conn_laws.specs.Places.{places_of, places_given, brought, taken, KeepsPlaces}
+use Rattle.conn_laws.specs.Places.{own_places, places_brought, places_taken, KeepsPlaces, KeepsInTurn}
 use Rattle.conn_laws.proofs.KeptPlaces.{kept_by_none, kept_by_one, kept_by_both, kept_beside, kept_behind}
 use Rattle.conn_laws.proofs.Aside.{Aside, none_in_both}
 use Rattle.conn_laws.proofs.Aside as asides
@@ -82,7 +82,7 @@ module _ {S P : Type 0} (call : S → SupplyCall P → S → Type 0) where
       }
 
   pub one : (old new : S) (supply_call : SupplyCall P) → call old supply_call new → match_of supply_call ≡ None → offer_of supply_call ≡ None → settlement_of supply_call ≡ None → hand_out_of supply_call ≡ None
-      → Plain [] (taken supply_call) (brought supply_call) old new
+      → Plain [] (places_taken supply_call) (places_brought supply_call) old new
   one old new supply_call called no_match no_offer no_settlement no_hand_out =
       record {
         supply_calls = supply_call ∷ [];
@@ -123,9 +123,9 @@ module _ {S P : Type 0} (call : S → SupplyCall P → S → Type 0) where
 
   -- a session is asked for
   resumed_as : (no : Bool) (old new : S) (request : ConnectRequest) (session : Session Held P) (phase : ConnPhase P) (reply : Reply)
-      → ResumesAs call no old request session phase reply new → Plain [] (place_in session.membership) (places_of phase) old new
-  resumed_as true old new request session phase reply resumes = becomes (ap places_of resumes.1.over) (one old new _ resumes.0 refl refl refl refl)
-  resumed_as false old new request session phase reply resumes = still old new (ap places_of resumes.1.begun) resumes.0
+      → ResumesAs call no old request session phase reply new → Plain [] (place_in session.membership) (own_places phase) old new
+  resumed_as true old new request session phase reply resumes = becomes (ap own_places resumes.1.over) (one old new _ resumes.0 refl refl refl refl)
+  resumed_as false old new request session phase reply resumes = still old new (ap own_places resumes.1.begun) resumes.0
 
   -- a session that a client had is retired, and the new one keeps its place
   replaced : (session : Option (Session Held P)) (places : List P) (old new : S) → RetiresEarlier call old session new → Plain [] (places ++ place_of session) places old new
@@ -141,26 +141,26 @@ module _ {S P : Type 0} (call : S → SupplyCall P → S → Type 0) where
         places = kept_behind places (place_of session) calls.supply_calls calls.places;
       }
 
-  waits_as : (fewer : Bool) (request : ConnectRequest) (ticks : ℕ) (phase : ConnPhase P) (reply : Reply) → WaitsAs fewer request ticks phase reply → places_of phase ≡ []
-  waits_as true request ticks phase reply waits = ap places_of waits.0
-  waits_as false request ticks phase reply refused = ap places_of refused.over
+  waits_as : (fewer : Bool) (request : ConnectRequest) (ticks : ℕ) (phase : ConnPhase P) (reply : Reply) → WaitsAs fewer request ticks phase reply → own_places phase ≡ []
+  waits_as true request ticks phase reply waits = ap own_places waits.0
+  waits_as false request ticks phase reply refused = ap own_places refused.over
 
   attached_as : (answer : Result (Attached Held P) DeskError) (old new : S) (request : ConnectRequest) (ticks : ℕ) (phase : ConnPhase P) (reply : Reply)
-      → AttachedAs call old request ticks answer phase reply new → Plain [] (places_given answer) (places_of phase) old new
+      → AttachedAs call old request ticks answer phase reply new → Plain [] (places_given answer) (own_places phase) old new
   attached_as (Ok (New session before)) old new request ticks phase reply answered =
-      becomes (ap places_of answered.1.begun) (replaced before (place_in session.membership) old new answered.0)
+      becomes (ap own_places answered.1.begun) (replaced before (place_in session.membership) old new answered.0)
   attached_as (Ok (Resumed session)) old new request ticks phase reply answered =
       resumed_as (has_place session.membership && not request.terms.takes_all_packets) old new request session phase reply answered
   attached_as (Ok (Replace holder)) old new request ticks phase reply answered =
       still old new (waits_as (nat_lt ticks most_ticks) request ticks phase reply answered.0) answered.1
-  attached_as (Ok Busy) old new request ticks phase reply answered = still old new (ap places_of answered.0.over) answered.1
-  attached_as (Err errors.Full) old new request ticks phase reply answered = still old new (ap places_of answered.0.over) answered.1
-  attached_as (Err errors.NoPlace) old new request ticks phase reply answered = still old new (ap places_of answered.0.over) answered.1
-  attached_as (Err errors.NoName) old new request ticks phase reply answered = still old new (ap places_of answered.0.over) answered.1
+  attached_as (Ok Busy) old new request ticks phase reply answered = still old new (ap own_places answered.0.over) answered.1
+  attached_as (Err errors.Full) old new request ticks phase reply answered = still old new (ap own_places answered.0.over) answered.1
+  attached_as (Err errors.NoPlace) old new request ticks phase reply answered = still old new (ap own_places answered.0.over) answered.1
+  attached_as (Err errors.NoName) old new request ticks phase reply answered = still old new (ap own_places answered.0.over) answered.1
   attached_as (Err errors.Memory) old new request ticks phase reply answered = absurd answered
 
   pub attached : (old new : S) (number now : ℕ) (request : ConnectRequest) (ticks : ℕ) (phase : ConnPhase P) (reply : Reply)
-      → Attaches call old number now request ticks phase reply new → Plain [] [] (places_of phase) old new
+      → Attaches call old number now request ticks phase reply new → Plain [] [] (own_places phase) old new
   attached old new number now request ticks phase reply attaches =
       behind old attaches.mid new (one old attaches.mid _ attaches.asked_for refl refl refl refl) (attached_as attaches.answer attaches.mid new request ticks phase reply attaches.answered)
 
@@ -180,21 +180,25 @@ module _ {S P : Type 0} (call : S → SupplyCall P → S → Type 0) where
       behind old fails.mid new (one old fails.mid _ fails.asked_for refl refl refl refl) (failed_with fails.answer fails.mid new now request fails.failed)
 
   pub tried_again : (old new : S) (number now : ℕ) (request : ConnectRequest) (ticks : ℕ) (phase : ConnPhase P) (reply : Reply)
-      → TriesAgain call old number now request ticks phase reply new → Plain [] [] (places_of phase) old new
+      → TriesAgain call old number now request ticks phase reply new → Plain [] [] (own_places phase) old new
   tried_again old new number now request ticks phase reply tries =
       behind old tries.mid new (attached old tries.mid number now request _ phase reply tries.attaches)
-      (beside (places_of phase) (plain [] tries.mid new (asides.withdrawn call phase tries.mid new number tries.withdraws)))
+      (beside (own_places phase) (plain [] tries.mid new (asides.withdrawn call phase tries.mid new number tries.withdraws)))
 
   pub failed_again : (old new : S) (number now : ℕ) (request : ConnectRequest) → FailsAgain call old number now request new → Plain [] [] [] old new
   failed_again old new number now request fails =
       behind old fails.mid new (failed_to_attach old fails.mid number now request fails.failed) (one fails.mid new _ fails.withdrawn refl refl refl refl)
 
-  -- messages are handed out
+  -- messages are handed out, to the place of this membership, one after the other
+  pub record HandsInTurn (given : List Message) (membership : Membership P) (after : List P) (old new : S) : Type 0 where
+    pub calls : Plain given (place_in membership) after old new
+    pub in_turn : KeepsInTurn (place_in membership) calls.supply_calls after
+
   pub handed_out : (old new : S) (membership : Membership P) (window : Contents Held) (packets : List Packet) (membership' : Membership P) (window' : Contents Held)
-      → HandsOut call old membership window packets membership' window' new → Plain (fresh_messages packets) (place_in membership) (place_in membership') old new
+      → HandsOut call old membership window packets membership' window' new → HandsInTurn (fresh_messages packets) membership (place_in membership') old new
   handed_out old new membership window packets membership' window' hands =
       let out = hand_outs.handed_out call old new membership window packets membership' window' hands in
-      subst (λ given. Plain given (place_in membership) (place_in membership') old new) (sym out.messages) (plain out.given old new out.calls)
+      subst (λ given. HandsInTurn given membership (place_in membership') old new) (sym out.messages) (record { calls = plain out.given old new out.calls; in_turn = out.in_turn })
 
   refused : (old new : S) (place place' : P) → IsRefused call old place place' new → Plain [] (place ∷ []) (place' ∷ []) old new
   refused old new place place' (inl at_once) = one old new _ at_once.1 refl refl refl refl

@@ -1,5 +1,6 @@
 -- A connection is over exactly where its step says so.
-use Rattle.std.proofs.Common.{◌≡◌, ◌≢◌, ◌↔◌, ℕ, Bool, true, false, List, Option, Some, None, Result, Ok, Err, refl, sym, ap, subst, ◌∙◌, nat_lt, not, ◌&&◌}
+use Rattle.std.proofs.Common.{◌≡◌, ◌≢◌, ◌↔◌, ℕ, Bool, true, false, List, [], ◌++◌, Option, Some, None, Result, Ok, Err, refl, sym, ap, subst, ◌∙◌, nat_lt, not, ◌&&◌}
+use Rattle.std.specs.Option.{option_to_list}
 use Rattle.mqtt_packet.specs.declared.packet.Packet.{Packet}
 use Rattle.mqtt_packet.specs.declared.packet.ConnectRefusal.{ConnectRefusal}
 use Rattle.group_jobs.specs.Stamps.{Held}
@@ -191,6 +192,21 @@ module _ {S P : Type 0} (call : S → SupplyCall P → S → Type 0) (slot_of : 
   ends_by old new number now phase phase' input packets next steps last =
       let over = last_over phase input old steps.mid number now steps.between steps.reply last steps.reacts in
       let hands = rw over at steps.hands in hands.1
+
+  -- the end of the input is answered by nothing
+  none_at_the_end : (phase : ConnPhase P) (old new : S) (number now : ℕ) (between : ConnPhase P) (reply : Reply)
+      → Reacts call slot_of old number phase now inputs.EndOfInput between reply new → reply.packet ≡ None
+  none_at_the_end (Unconnected opened) old new number now between reply is = ap (λ (r : Reply). r.packet) is.0.told
+  none_at_the_end (Waiting request ticks) old new number now between reply is = ap (λ (r : Reply). r.packet) is.1.told
+  none_at_the_end (Connected connected) old new number now between reply is = ap (λ (r : Reply). r.packet) is.0
+  none_at_the_end Ended old new number now between reply is = ap (λ (r : Reply). r.packet) is.0.told
+
+  pub silent : (old new : S) (number now : ℕ) (phase phase' : ConnPhase P) (packets : List Packet) (next : Then)
+      → Steps call slot_of old number phase now inputs.EndOfInput packets next phase' new → packets ≡ []
+  silent old new number now phase phase' packets next steps =
+      let over = last_over phase inputs.EndOfInput old steps.mid number now steps.between steps.reply tt steps.reacts in
+      let hands = rw over at steps.hands in
+      steps.written ∙ ap (λ packet. option_to_list packet ++ steps.sent) (none_at_the_end phase old steps.mid number now steps.between steps.reply steps.reacts) ∙ hands.0
 
   -- a connection that has its session has it after a step, or has ended
   concludes_keeping : (next : Then) (old new : S) (connected : ConnectedClient P) (now : ℕ) (phase : ConnPhase P) → Concludes call slot_of old connected now next phase new → KeepsOrEnds phase

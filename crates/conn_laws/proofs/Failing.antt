@@ -16,7 +16,7 @@ use Rattle.conn_engine.specs.declared.phase.ConnectedClient.{ConnectedClient}
 use Rattle.conn_engine.specs.declared.phase.ConnPhase.{ConnPhase}
 use Rattle.conn_engine.specs.declared.phase.ConnPhase.TheVariants.{Unconnected, Waiting, Connected, Ended}
 use Rattle.conn_engine.specs.Answering.{FailsToAnswer}
-use Rattle.conn_laws.specs.Places.{places_of, KeepsPlaces}
+use Rattle.conn_laws.specs.Places.{own_places, KeepsPlaces}
 use Rattle.conn_laws.specs.Calls.{offer_of, match_of, settlement_of, offered, matched, settled, MakesAll, OffersToEach, OffersNone, SettlesOne, SettlesNone, OffersToSome, FailedCalls}
 use Rattle.conn_supply.specs.Publishing.{OffersFirst, OffersSome, IsCutShort}
 use Rattle.conn_engine.specs.Step.{hearing, after_hand_out, GivesUp, ShutsDown, CutsOff, FailsToReact, HandsLess, FailsToHand, FailsToStep}
@@ -25,7 +25,7 @@ use Rattle.conn_laws.proofs.Calling.{Plain, HandsSomething, beside, still, one, 
 use Rattle.conn_laws.proofs.Stepping.{Walked, none_behind, none_before, further, reacted}
 
 module _ {S P : Type 0} (call : S → SupplyCall P → S → Type 0) where
-  plain : (given : List Message) (old new : S) (number : ℕ) (phase : ConnPhase P) (input : Input) → Plain call given (places_of phase) [] old new → FailedCalls call old number phase input new
+  plain : (given : List Message) (old new : S) (number : ℕ) (phase : ConnPhase P) (input : Input) → Plain call given (own_places phase) [] old new → FailedCalls call old number phase input new
   plain given old new number phase input calls =
       record { supply_calls = calls.supply_calls; made = calls.made; offers = inr calls.offers; settles = inr calls.settles; places = calls.places }
 
@@ -115,15 +115,15 @@ module _ {S P : Type 0} (call : S → SupplyCall P → S → Type 0) where
   part_of slots old new number message (inr offers) = first_of slots old new number message offers
 
   -- a PUBLISH that was cut short, with calls by which nothing is offered before and after it
-  cut_short : (old before after new : S) (number : ℕ) (phase : ConnPhase P) (publish : Publish) → Plain call [] (places_of phase) (places_of phase) old before
-      → IsCutShort call before number publish after → Plain call [] (places_of phase) [] after new
+  cut_short : (old before after new : S) (number : ℕ) (phase : ConnPhase P) (publish : Publish) → Plain call [] (own_places phase) (own_places phase) old before
+      → IsCutShort call before number publish after → Plain call [] (own_places phase) [] after new
       → FailedCalls call old number phase (inputs.Packet (packets.Publish publish)) new
   cut_short old before after new number phase publish first cut last =
       let part = part_of cut.slots cut.mid after number (message_of publish) cut.offered in
       let match : SupplyCall P = Match publish.topic cut.slots in
       let these = match ∷ part.supply_calls in
       let made = joins call these last.supply_calls before after new (cut.mid, cut.matched, part.made) last.made in
-      let places = kept_beside (places_of phase) [] [] these (kept_by_both [] [] [] (match ∷ []) part.supply_calls (kept_by_one match) part.places) in
+      let places = kept_beside (own_places phase) [] [] these (kept_by_both [] [] [] (match ∷ []) part.supply_calls (kept_by_one match) part.places) in
       record {
         supply_calls = first.supply_calls ++ (these ++ last.supply_calls);
         made = joins call first.supply_calls (these ++ last.supply_calls) old before new first.made made;
@@ -139,24 +139,24 @@ module _ {S P : Type 0} (call : S → SupplyCall P → S → Type 0) where
         });
         settles = inr (none_before settlement_of first.supply_calls (these ++ last.supply_calls) _ first.settles (none_behind settlement_of these last.supply_calls _ part.settles last.settles));
         places =
-            kept_by_both (places_of phase) (places_of phase) [] first.supply_calls (these ++ last.supply_calls) first.places
-            (kept_by_both (places_of phase) (places_of phase) [] these last.supply_calls places last.places);
+            kept_by_both (own_places phase) (own_places phase) [] first.supply_calls (these ++ last.supply_calls) first.places
+            (kept_by_both (own_places phase) (own_places phase) [] these last.supply_calls places last.places);
       }
 
   module _ (slot_of : P → ℕ) where
-    given_up : (phase : ConnPhase P) (old new : S) (number now : ℕ) → GivesUp call slot_of old number phase now new → Plain call [] (places_of phase) [] old new
+    given_up : (phase : ConnPhase P) (old new : S) (number now : ℕ) → GivesUp call slot_of old number phase now new → Plain call [] (own_places phase) [] old new
     given_up (Unconnected opened) old new number now gives = still call old new refl gives
     given_up (Waiting request ticks) old new number now gives = one call old new _ gives refl refl refl refl
     given_up (Connected connected) old new number now gives = parted call old new connected.session now gives
     given_up Ended old new number now gives = still call old new refl gives
 
-    shut_down : (phase : ConnPhase P) (old new : S) (number : ℕ) → ShutsDown call slot_of old number phase new → Plain call [] (places_of phase) [] old new
+    shut_down : (phase : ConnPhase P) (old new : S) (number : ℕ) → ShutsDown call slot_of old number phase new → Plain call [] (own_places phase) [] old new
     shut_down (Unconnected opened) old new number shuts = still call old new refl shuts
     shut_down (Waiting request ticks) old new number shuts = one call old new _ shuts refl refl refl refl
     shut_down (Connected connected) old new number shuts = one call old new _ shuts refl refl refl refl
     shut_down Ended old new number shuts = still call old new refl shuts
 
-    cut_off : (input : Input) (phase : ConnPhase P) (old new : S) (number now : ℕ) → CutsOff call slot_of old number phase now input new → Plain call [] (places_of phase) [] old new
+    cut_off : (input : Input) (phase : ConnPhase P) (old new : S) (number now : ℕ) → CutsOff call slot_of old number phase now input new → Plain call [] (own_places phase) [] old new
     cut_off (inputs.Packet packet) phase old new number now cuts = given_up phase old new number now cuts
     cut_off (inputs.Fault fault) phase old new number now cuts = given_up phase old new number now cuts
     cut_off inputs.Tick phase old new number now cuts = given_up phase old new number now cuts
@@ -164,14 +164,14 @@ module _ {S P : Type 0} (call : S → SupplyCall P → S → Type 0) where
     cut_off inputs.Closing phase old new number now cuts = shut_down phase old new number cuts
 
     -- the calls after an answer, of a connection that this is
-    later : (connected' connected : ConnectedClient P) (old new : S) → connected' ≡ connected → Plain call [] (places_of (Connected connected')) [] old new
-        → Plain call [] (places_of (Connected connected)) [] old new
-    later connected' connected old new is calls = subst (λ (connected : ConnectedClient P). Plain call [] (places_of (Connected connected)) [] old new) is calls
+    later : (connected' connected : ConnectedClient P) (old new : S) → connected' ≡ connected → Plain call [] (own_places (Connected connected')) [] old new
+        → Plain call [] (own_places (Connected connected)) [] old new
+    later connected' connected old new is calls = subst (λ (connected : ConnectedClient P). Plain call [] (own_places (Connected connected)) [] old new) is calls
 
     -- an allocation failed for the answer to a packet
     failed_to_answer : (packet : Packet) (old before after new : S) (number now : ℕ) (connected connected' : ConnectedClient P)
-        → Plain call [] (places_of (Connected connected)) (places_of (Connected connected)) old before → FailsToAnswer call slot_of before number (hearing connected now) packet connected' after
-        → Plain call [] (places_of (Connected connected')) [] after new → FailedCalls call old number (Connected connected) (inputs.Packet packet) new
+        → Plain call [] (own_places (Connected connected)) (own_places (Connected connected)) old before → FailsToAnswer call slot_of before number (hearing connected now) packet connected' after
+        → Plain call [] (own_places (Connected connected')) [] after new → FailedCalls call old number (Connected connected) (inputs.Packet packet) new
     failed_to_answer (packets.Publish publish) old before after new number now connected connected' first fails last =
         cut_short old before after new number (Connected connected) publish first fails.0 (later connected' _ after new fails.1 last)
     failed_to_answer (packets.Subscribe subscribe) old before after new number now connected connected' first fails last =
@@ -210,7 +210,7 @@ module _ {S P : Type 0} (call : S → SupplyCall P → S → Type 0) where
     failed_to_react (Waiting request ticks) inputs.Closing old new number now fails = absurd fails
     failed_to_react (Connected connected) (inputs.Packet packet) old new number now fails =
         let answer = fails.2 in
-        failed_to_answer packet old fails.0 answer.1 new number now connected answer.0 (beside call (places_of (Connected connected)) (one call old fails.0 _ fails.1 refl refl refl refl)) answer.2
+        failed_to_answer packet old fails.0 answer.1 new number now connected answer.0 (beside call (own_places (Connected connected)) (one call old fails.0 _ fails.1 refl refl refl refl)) answer.2
         (parted call answer.1 new answer.0.session now answer.3)
     failed_to_react (Connected connected) (inputs.Fault fault) old new number now fails = absurd fails
     failed_to_react (Connected connected) inputs.Tick old new number now fails = absurd fails
@@ -223,7 +223,7 @@ module _ {S P : Type 0} (call : S → SupplyCall P → S → Type 0) where
     failed_to_react Ended inputs.Closing old new number now fails = absurd fails
 
     -- an allocation failed for what is handed out
-    handed_less : (between : ConnPhase P) (old new : S) (now : ℕ) → HandsLess call slot_of old between now new → HandsSomething call (places_of between) [] old new
+    handed_less : (between : ConnPhase P) (old new : S) (now : ℕ) → HandsLess call slot_of old between now new → HandsSomething call (own_places between) [] old new
     handed_less (Unconnected opened) old new now hands = absurd hands
     handed_less (Waiting request ticks) old new now hands = absurd hands
     handed_less (Connected connected) old new now hands =

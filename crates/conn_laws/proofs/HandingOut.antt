@@ -19,7 +19,9 @@ use Rattle.conn_supply.specs.HandOuts.{SendsAgain, AsksFor, SendsNone, SendsFres
 use Rattle.conn_laws.specs.Calls.{messages_of, fresh_message, fresh_messages}
 use Rattle.conn_laws.specs.Marks.{publishes_in, publishes_of, fresh_of, acknowledged_of, IsWithin}
 use Rattle.conn_laws.specs.Transcripts.{HasOneAs, KeepsNumbers}
-use Rattle.conn_laws.proofs.Aside.{Aside, becomes, beside, still, hand, one, after, behind}
+use Rattle.conn_laws.specs.Places.{KeepsInTurn}
+use Rattle.conn_laws.proofs.Aside.{Aside}
+use Rattle.conn_laws.proofs.InTurn.{InTurn, becomes, still, hand, one, after, behind}
 
 -- calls of a window whose marks are these PUBLISH packets; these items go out for the first time
 pub record Sends (old : Contents Held) (sent : List Packet) (fresh : List Held) (new : Contents Held) : Type 0 where
@@ -62,7 +64,7 @@ module _ {S P : Type 0} (call : S → SupplyCall P → S → Type 0) where
   -- a place was asked for a message, and was what it is
   pub record Asked (old : S) (place : P) (found : Option Held) (place' : P) (new : S) : Type 0 where
     pub from : P
-    pub calls : Aside call (given_in from found) (place ∷ []) (place' ∷ []) old new
+    pub calls : InTurn call (given_in from found) (place ∷ []) (place' ∷ []) old new
     pub stays : (of : P → ℕ) → KeepsNumbers call of → (of from ≡ of place) × (of place' ≡ of place)
 
   asked_later : (found : Option Held) (old mid new : S) (place between place' : P) → call old (TakeBack place between (Ok None)) mid → call mid (Take between place' (Ok found)) new
@@ -70,13 +72,13 @@ module _ {S P : Type 0} (call : S → SupplyCall P → S → Type 0) where
   asked_later None old mid new place between place' first last =
       record {
         from = between;
-        calls = behind call old mid new (one call old mid _ first tt refl refl refl refl) (one call mid new _ last tt refl refl refl refl);
+        calls = behind call old mid new (one call [] old mid _ first tt refl refl refl refl) (one call [] mid new _ last tt refl refl refl refl);
         stays = λ of keeps. (keeps old mid _ first, keeps mid new _ last ∙ keeps old mid _ first);
       }
   asked_later (Some envelope) old mid new place between place' first last =
       record {
         from = between;
-        calls = after call [] ((between, envelope) ∷ []) old mid new (one call old mid _ first tt refl refl refl refl) (hand call (Some (between, envelope)) mid new _ last tt refl refl refl refl);
+        calls = after call [] ((between, envelope) ∷ []) old mid new (one call [] old mid _ first tt refl refl refl refl) (hand call [] (Some (between, envelope)) mid new _ last tt refl refl refl refl);
         stays = λ of keeps. (keeps old mid _ first, keeps mid new _ last ∙ keeps old mid _ first);
       }
 
@@ -84,7 +86,7 @@ module _ {S P : Type 0} (call : S → SupplyCall P → S → Type 0) where
   asked_for found old new place place' (inl back) =
       record {
         from = place;
-        calls = subst (λ f. Aside call (given_in place f) (place ∷ []) (place' ∷ []) old new) (sym back.1) (hand call (Some (place, back.0)) old new _ back.2 tt refl refl refl refl);
+        calls = subst (λ f. InTurn call (given_in place f) (place ∷ []) (place' ∷ []) old new) (sym back.1) (hand call [] (Some (place, back.0)) old new _ back.2 tt refl refl refl refl);
         stays = λ of keeps. (refl, keeps old new _ back.2);
       }
   asked_for found old new place place' (inr queued) = asked_later found old queued.1 new place queued.0 place' queued.2 queued.3
@@ -93,15 +95,16 @@ module _ {S P : Type 0} (call : S → SupplyCall P → S → Type 0) where
   pub record Handed (old : S) (places : List P) (window : Contents Held) (sent : List Packet) (membership' : Membership P) (window' : Contents Held) (new : S) : Type 0 where
     pub given : List (P × Held)
     pub calls : Aside call given places (place_in membership') old new
+    pub in_turn : KeepsInTurn places calls.supply_calls (place_in membership')
     pub sends : Sends window sent (map (λ (h : P × Held). h.1) given) window'
     pub own : (of : P → ℕ) → KeepsNumbers call of → AllByRecursion (λ (h : P × Held). HasOneAs of membership' h.0) given
     pub messages : fresh_messages sent ≡ messages_of given
 
-  hands_none : {places : List P} (old new : S) (window : Contents Held) (sent : List Packet) (membership' : Membership P) (window' : Contents Held) → sent ≡ [] → window' ≡ window → Aside call [] places (place_in membership') old new
+  hands_none : {places : List P} (old new : S) (window : Contents Held) (sent : List Packet) (membership' : Membership P) (window' : Contents Held) → sent ≡ [] → window' ≡ window → InTurn call [] places (place_in membership') old new
       → Handed old places window sent membership' window' new
   hands_none {places} old new window sent membership' window' none same calls =
       subst (λ packets. Handed old places window packets membership' window' new) (sym none)
-      (record { given = []; calls = calls; sends = sends_none window window' same; own = λ of keeps. tt; messages = refl })
+      (record { given = []; calls = calls.calls; in_turn = calls.in_turn; sends = sends_none window window' same; own = λ of keeps. tt; messages = refl })
 
   -- with the place, which keeps its numbers
   abbrev HandsAt : S → P → Contents Held → List Packet → P → Membership P → Contents Held → S → Type 0
@@ -113,11 +116,11 @@ module _ {S P : Type 0} (call : S → SupplyCall P → S → Type 0) where
       (hands_none old new window [] membership' window' refl same (still call old new (ap place_in is ∙ ap (λ p. p ∷ []) full.1) full.2), λ of keeps. ap of full.1)
   sent_none old new place place' window window' membership' is (same, inr (inl none)) =
       let asked = asked_for None old new place place' none.2 in
-      let calls = behind call old old new (beside call (place ∷ []) (one call old old _ none.1 tt refl refl refl refl)) asked.calls in
+      let calls = behind call old old new (one call (place ∷ []) old old _ none.1 tt refl refl refl refl) asked.calls in
       (hands_none old new window [] membership' window' refl same (becomes call (ap place_in is) calls), λ of keeps. (asked.stays of keeps).1)
   sent_none old new place place' window window' membership' is (same, inr (inr stop)) =
       let places = ap place_in is ∙ ap (λ p. p ∷ []) stop.1 in
-      let calls = behind call old old new (beside call (place ∷ []) (one call old old _ stop.3 tt refl refl refl refl)) (still call old new places stop.2) in
+      let calls = behind call old old new (one call (place ∷ []) old old _ stop.3 tt refl refl refl refl) (still call old new places stop.2) in
       (hands_none old new window [] membership' window' refl same calls, λ of keeps. ap of stop.1)
 
   sent_fresh : (packets : List Packet) (old new : S) (place place' : P) (window window' : Contents Held) (membership' : Membership P) → membership' ≡ Member place'
@@ -126,12 +129,14 @@ module _ {S P : Type 0} (call : S → SupplyCall P → S → Type 0) where
   sent_fresh (packet ∷ packets) old new place place' window window' membership' is sends =
       let first = sends.3 in
       let asked = asked_for (Some first.envelope) old sends.2 place sends.0 first.asked in
-      let one_call = after call [] ((asked.from, first.envelope) ∷ []) old old sends.2 (beside call (place ∷ []) (one call old old _ first.allowed tt refl refl refl refl)) asked.calls in
+      let one_call = after call [] ((asked.from, first.envelope) ∷ []) old old sends.2 (one call (place ∷ []) old old _ first.allowed tt refl refl refl refl) asked.calls in
       let others = sent_fresh packets sends.2 new sends.0 place' sends.1 window' membership' is sends.4 in
-      let rest = others.0 in (
+      let rest = others.0 in
+      let all = after call ((asked.from, first.envelope) ∷ []) rest.given old sends.2 new one_call (record { calls = rest.calls; in_turn = rest.in_turn }) in (
         record {
           given = (asked.from, first.envelope) ∷ rest.given;
-          calls = after call ((asked.from, first.envelope) ∷ []) rest.given old sends.2 new one_call rest.calls;
+          calls = all.calls;
+          in_turn = all.in_turn;
           sends = record {
             calls = Put first.envelope (Ok first.identifier) ∷ rest.sends.calls;
             made = (tt, (sends.1, (first.room, first.free, first.put), rest.sends.made));
@@ -146,8 +151,8 @@ module _ {S P : Type 0} (call : S → SupplyCall P → S → Type 0) where
         λ of keeps. others.1 of keeps ∙ (asked.stays of keeps).1,
       )
 
-  left_with : (old new : S) (place : P) (window : Contents Held) (membership : Membership P) → LeavesWith call old place window membership new → Aside call [] (place ∷ []) (place_in membership) old new
-  left_with old new place window membership (inl gone) = becomes call (ap place_in gone.1) (one call old new _ gone.2 tt refl refl refl refl)
+  left_with : (old new : S) (place : P) (window : Contents Held) (membership : Membership P) → LeavesWith call old place window membership new → InTurn call [] (place ∷ []) (place_in membership) old new
+  left_with old new place window membership (inl gone) = becomes call (ap place_in gone.1) (one call [] old new _ gone.2 tt refl refl refl refl)
   left_with old new place window membership (inr stays) = still call old new (ap place_in stays.1) stays.2
 
   handed_fresh : (membership : Membership P) (old new : S) (window : Contents Held) (packets : List Packet) (membership' : Membership P) (window' : Contents Held)
@@ -165,6 +170,7 @@ module _ {S P : Type 0} (call : S → SupplyCall P → S → Type 0) where
       (record {
         given = fresh.given;
         calls = fresh.calls;
+        in_turn = fresh.in_turn;
         sends = again_before hands.again hands.fresh _ window hands.between window' hands.sent_again fresh.sends;
         own = fresh.own;
         messages =

@@ -5,6 +5,7 @@ pub mod Eager
 pub mod Replying
 pub mod KeptPlaces
 pub mod Aside
+pub mod InTurn
 pub mod HandingOut
 pub mod Calling
 pub mod Stepping

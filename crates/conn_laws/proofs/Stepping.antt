@@ -39,13 +39,13 @@ use Rattle.conn_engine.specs.declared.phase.ConnPhase.{ConnPhase}
 use Rattle.conn_engine.specs.declared.phase.ConnPhase.TheVariants.{Unconnected, Waiting, Connected, Ended}
 use Rattle.conn_engine.specs.Answering.{DisconnectsIf, Disconnects, Answers}
 use Rattle.conn_engine.specs.Connecting.{has_place}
-use Rattle.conn_laws.specs.Places.{places_of, KeepsPlaces}
-use Rattle.conn_laws.specs.Calls.{offer_of, match_of, settlement_of, hand_out_of, offered, matched, settled, handed, messages_of, fresh_messages, IsToBeOffered, Brings, Confirms, OffersToEach, OffersNone, SettlesOne, SettlesNone, MakesAll, StepCalls}
+use Rattle.conn_laws.specs.Places.{own_places, KeepsPlaces}
+use Rattle.conn_laws.specs.Calls.{offer_of, match_of, settlement_of, hand_out_of, offered, matched, settled, handed, messages_of, fresh_messages, IsToBeOffered, Brings, Confirms, OffersToEach, OffersNone, SettlesOne, SettlesNone, HandsOutLast, MakesAll, StepCalls}
 use Rattle.conn_supply.specs.Publishing.{Offers, AnswersPublish}
 use Rattle.conn_engine.specs.Step.{hearing, IsRefusedIf, WaitsForConnect, AnswersFirst, Concludes, AnswersPacket, AnswersTick, IsHeard, IsKicked, AnswersUnlessKicked, Reacts, Hands, Steps}
 use Rattle.conn_laws.proofs.Replying.{replied_and_sent}
 use Rattle.conn_laws.proofs.KeptPlaces.{kept_by_none, kept_by_one, kept_by_both, kept_beside}
-use Rattle.conn_laws.proofs.Calling.{Plain, becomes, beside, still, one, behind, joins, parted, swept, attached, tried_again, handed_out, subscribed_as, unsubscribed_as}
+use Rattle.conn_laws.proofs.Calling.{Plain, HandsInTurn, becomes, beside, still, one, behind, joins, parted, swept, attached, tried_again, handed_out, subscribed_as, unsubscribed_as}
 
 -- nothing more is found after or before
 pub none_behind : {P X : Type 0} (find : SupplyCall P → Option X) (supply_calls others : List (SupplyCall P)) (xs : List X) → filter_map find supply_calls ≡ xs → filter_map find others ≡ [] → filter_map find (supply_calls ++ others) ≡ xs
@@ -60,6 +60,11 @@ hands_both : {P : Type 0} (supply_calls others : List (SupplyCall P)) (given mor
 hands_both {P} supply_calls others given more these those =
     ap messages_of (filter_map-append hand_out_of supply_calls others) ∙ map-append (λ (h : P × Held). h.1.message) (handed supply_calls) (handed others) ∙ (λ i. these i ++ those i)
 
+-- of no message nothing is handed out
+none_of_none : {P : Type 0} (hand_outs : List (P × Held)) → messages_of hand_outs ≡ [] → hand_outs ≡ []
+none_of_none [] none = refl
+none_of_none (hand_out ∷ hand_outs) none = absurd (let never : hand_out.1.message ∷ messages_of hand_outs ≡ [] = none in cc)
+
 module _ {S P : Type 0} (call : S → SupplyCall P → S → Type 0) where
   -- the calls of a step, by which these messages are handed out, and after which the connection has these places
   pub record Walked (given : List Message) (old : S) (number : ℕ) (phase : ConnPhase P) (input : Input) (next : Then) (after : List P) (new : S) : Type 0 where
@@ -68,7 +73,33 @@ module _ {S P : Type 0} (call : S → SupplyCall P → S → Type 0) where
     pub offers : OffersToEach number input supply_calls ⊎ OffersNone phase input supply_calls next
     pub settles : SettlesOne phase input supply_calls ⊎ SettlesNone phase input supply_calls next
     pub hands : messages_of (handed supply_calls) ≡ given
-    pub places : KeepsPlaces (places_of phase) supply_calls after
+    pub places : KeepsPlaces (own_places phase) supply_calls after
+
+  -- all calls of a step, of which the last hand out
+  record All (given : List Message) (old : S) (number : ℕ) (phase : ConnPhase P) (input : Input) (next : Then) (after : List P) (new : S) : Type 0 where
+    pub calls : Walked given old number phase input next after new
+    pub hands_last : HandsOutLast (own_places phase) calls.supply_calls after
+
+  -- what is handed out behind the reply, to the place of the membership that there is then
+  record HandsBehind (given : List Message) (between : ConnPhase P) (old : S) (phase : ConnPhase P) (new : S) : Type 0 where
+    pub membership : Membership P
+    pub its : own_places between ≡ place_in membership
+    pub hands : HandsInTurn call given membership (own_places phase) old new
+
+  none_behind_it : (between : ConnPhase P) → own_places between ≡ [] → (old new : S) (sent : List Packet) (phase : ConnPhase P) → (sent ≡ []) × (phase ≡ between) × (new ≡ old)
+      → HandsBehind (fresh_messages sent) between old phase new
+  none_behind_it between none old new sent phase hands =
+      subst (λ given. HandsBehind given between old phase new) (sym (ap fresh_messages hands.0))
+      (record {
+        membership = NotMember;
+        its = none;
+        hands =
+            subst (λ places. HandsInTurn call [] NotMember places old new) (sym (ap own_places hands.1 ∙ none))
+            (record {
+              calls = record { supply_calls = []; made = hands.2; match = refl; offers = refl; settles = refl; hands = refl; places = kept_by_none [] };
+              in_turn = refl;
+            });
+      })
 
   -- the places after it, said otherwise
   comes_to : {given : List Message} {old new : S} {number : ℕ} {phase : ConnPhase P} {input : Input} {next : Then} {after after' : List P} → after' ≡ after
@@ -76,7 +107,7 @@ module _ {S P : Type 0} (call : S → SupplyCall P → S → Type 0) where
   comes_to {given} {old} {new} {number} {phase} {input} {next} same calls = subst (λ places. Walked given old number phase input next places new) (sym same) calls
 
   -- a step that brings and acknowledges nothing
-  plain : {after : List P} (old new : S) (number : ℕ) (phase : ConnPhase P) (input : Input) (next : Then) → Plain call [] (places_of phase) after old new
+  plain : {after : List P} (old new : S) (number : ℕ) (phase : ConnPhase P) (input : Input) (next : Then) → Plain call [] (own_places phase) after old new
       → ((publish : Publish) → Brings phase input publish → next ≡ Kicked) → ((envelope : Held) (fate : Fate) → Confirms phase input envelope fate → next ≡ Kicked)
       → Walked [] old number phase input next after new
   plain old new number phase input next calls none_brought none_acknowledged =
@@ -90,7 +121,7 @@ module _ {S P : Type 0} (call : S → SupplyCall P → S → Type 0) where
       }
 
   -- a step of an input by which nothing could be brought or acknowledged
-  idle : {after : List P} (old new : S) (number : ℕ) (phase : ConnPhase P) (input : Input) (next : Then) → Plain call [] (places_of phase) after old new
+  idle : {after : List P} (old new : S) (number : ℕ) (phase : ConnPhase P) (input : Input) (next : Then) → Plain call [] (own_places phase) after old new
       → ((publish : Publish) → Brings phase input publish → ⊥) × ((envelope : Held) (fate : Fate) → Confirms phase input envelope fate → ⊥)
       → Walked [] old number phase input next after new
   idle old new number phase input next calls never =
@@ -130,10 +161,10 @@ module _ {S P : Type 0} (call : S → SupplyCall P → S → Type 0) where
             (none_behind offer_of calls.supply_calls others.supply_calls _ refl others.offers) calls.offers;
         settles = settles_alike phase input next calls.supply_calls all (none_behind settlement_of calls.supply_calls others.supply_calls _ refl others.settles) calls.settles;
         hands = hands_both calls.supply_calls others.supply_calls [] more calls.hands others.hands;
-        places = kept_by_both (places_of phase) between after calls.supply_calls others.supply_calls calls.places others.places;
+        places = kept_by_both (own_places phase) between after calls.supply_calls others.supply_calls calls.places others.places;
       }
 
-  earlier : {after : List P} (old mid new : S) (number : ℕ) (phase : ConnPhase P) (input : Input) (next : Then) → Plain call [] (places_of phase) (places_of phase) old mid
+  earlier : {after : List P} (old mid new : S) (number : ℕ) (phase : ConnPhase P) (input : Input) (next : Then) → Plain call [] (own_places phase) (own_places phase) old mid
       → Walked [] mid number phase input next after new → Walked [] old number phase input next after new
   earlier {after} old mid new number phase input next others calls =
       let all = others.supply_calls ++ calls.supply_calls in
@@ -145,7 +176,7 @@ module _ {S P : Type 0} (call : S → SupplyCall P → S → Type 0) where
             (none_before offer_of others.supply_calls calls.supply_calls _ others.offers refl) calls.offers;
         settles = settles_alike phase input next calls.supply_calls all (none_before settlement_of others.supply_calls calls.supply_calls _ others.settles refl) calls.settles;
         hands = hands_both others.supply_calls calls.supply_calls [] [] others.hands calls.hands;
-        places = kept_by_both (places_of phase) (places_of phase) after others.supply_calls calls.supply_calls others.places calls.places;
+        places = kept_by_both (own_places phase) (own_places phase) after others.supply_calls calls.supply_calls others.places calls.places;
       }
 
   -- a message is offered once to each of these groups
@@ -174,7 +205,7 @@ module _ {S P : Type 0} (call : S → SupplyCall P → S → Type 0) where
       }
 
   published : (answer : PublishAnswer) (old new : S) (number : ℕ) (connected : ConnectedClient P) (publish : Publish) (reply : Reply) → publish_answer publish ≡ answer
-      → AnswersPublish call old number publish answer reply new → Walked [] old number (Connected connected) (inputs.Packet (packets.Publish publish)) reply.next (places_of (Connected connected)) new
+      → AnswersPublish call old number publish answer reply new → Walked [] old number (Connected connected) (inputs.Packet (packets.Publish publish)) reply.next (own_places (Connected connected)) new
   published (answers.Close code) old new number connected publish reply is answers =
       plain old new number (Connected connected) _ reply.next (still call old new refl answers.1) (λ brought brings. absurd (subst IsToBeOffered is brings.1)) (λ envelope fate confirms. absurd confirms)
   published (answers.Refuse identifier code) old new number connected publish reply is answers =
@@ -195,7 +226,7 @@ module _ {S P : Type 0} (call : S → SupplyCall P → S → Type 0) where
         });
         settles = inr (record { settles = to.settles; unless = λ envelope fate confirms. absurd confirms });
         hands = to.hands;
-        places = kept_beside (places_of (Connected connected)) [] [] (first ∷ to.supply_calls) (kept_by_both [] [] [] (first ∷ []) to.supply_calls (kept_by_one first) to.places);
+        places = kept_beside (own_places (Connected connected)) [] [] (first ∷ to.supply_calls) (kept_by_both [] [] [] (first ∷ []) to.supply_calls (kept_by_one first) to.places);
       }
 
   -- a PUBACK for what the session holds, and any other
@@ -228,30 +259,30 @@ module _ {S P : Type 0} (call : S → SupplyCall P → S → Type 0) where
       comes_to (ap place_in does.2) (settled_as does.1.found old new number connected puback place does.0 window' next (ap has_place is) (ap place_in is) does.1.acked does.1.settled)
 
   -- a connection that stays what it was has the places that it had
-  alike : (after was : ConnectedClient P) → after ≡ was → places_of (Connected after) ≡ places_of (Connected was)
-  alike after was same = ap (λ (connected : ConnectedClient P). places_of (Connected connected)) same
+  alike : (after was : ConnectedClient P) → after ≡ was → own_places (Connected after) ≡ own_places (Connected was)
+  alike after was same = ap (λ (connected : ConnectedClient P). own_places (Connected connected)) same
 
-  disconnected_if : (given : Bool) (connected after : ConnectedClient P) (seconds : ℕ) (reply : Reply) → DisconnectsIf given connected seconds after reply → places_of (Connected after) ≡ places_of (Connected connected)
+  disconnected_if : (given : Bool) (connected after : ConnectedClient P) (seconds : ℕ) (reply : Reply) → DisconnectsIf given connected seconds after reply → own_places (Connected after) ≡ own_places (Connected connected)
   disconnected_if true connected after seconds reply does = alike after _ does.0
   disconnected_if false connected after seconds reply does = alike after _ does.0
 
-  disconnected : (seconds : Option ℕ) (connected after : ConnectedClient P) (reply : Reply) → Disconnects connected seconds after reply → places_of (Connected after) ≡ places_of (Connected connected)
+  disconnected : (seconds : Option ℕ) (connected after : ConnectedClient P) (reply : Reply) → Disconnects connected seconds after reply → own_places (Connected after) ≡ own_places (Connected connected)
   disconnected None connected after reply does = alike after _ does.0
   disconnected (Some seconds) connected after reply does = disconnected_if (is_given_expiry seconds connected.terms) connected after seconds reply does
 
   -- who is refused, or still to send a CONNECT, has none
-  refused_if : (refusal : Option ConnectRefusal) (phase : ConnPhase P) (reply : Reply) → IsRefusedIf refusal phase reply → places_of phase ≡ []
-  refused_if (Some refusal) phase reply refused = ap places_of refused.over
-  refused_if None phase reply closed = ap places_of closed.over
+  refused_if : (refusal : Option ConnectRefusal) (phase : ConnPhase P) (reply : Reply) → IsRefusedIf refusal phase reply → own_places phase ≡ []
+  refused_if (Some refusal) phase reply refused = ap own_places refused.over
+  refused_if None phase reply closed = ap own_places closed.over
 
-  waits_for_connect : (late : Bool) (opened : Opening) (phase : ConnPhase P) (reply : Reply) → WaitsForConnect late opened phase reply → places_of phase ≡ []
-  waits_for_connect true opened phase reply closed = ap places_of closed.over
-  waits_for_connect false opened phase reply waits = ap places_of waits.0
+  waits_for_connect : (late : Bool) (opened : Opening) (phase : ConnPhase P) (reply : Reply) → WaitsForConnect late opened phase reply → own_places phase ≡ []
+  waits_for_connect true opened phase reply closed = ap own_places closed.over
+  waits_for_connect false opened phase reply waits = ap own_places waits.0
 
   module _ (slot_of : P → ℕ) where
     -- the answer to a packet
     answered : (packet : Packet) (old new : S) (number now : ℕ) (connected after : ConnectedClient P) (reply : Reply) → Answers call slot_of old number (hearing connected now) packet after reply new
-        → Walked [] old number (Connected connected) (inputs.Packet packet) reply.next (places_of (Connected after)) new
+        → Walked [] old number (Connected connected) (inputs.Packet packet) reply.next (own_places (Connected after)) new
     answered (packets.Publish publish) old new number now connected after reply answers =
         comes_to (alike after _ answers.1) (published (publish_answer publish) old new number connected publish reply refl answers.0)
     answered (packets.Puback puback) old new number now connected after reply answers =
@@ -280,99 +311,114 @@ module _ {S P : Type 0} (call : S → SupplyCall P → S → Type 0) where
 
     -- a taken over connection brings nothing
     kicked : (old new : S) (number : ℕ) (connected : ConnectedClient P) (now : ℕ) (input : Input) (phase : ConnPhase P) (reply : Reply) → IsKicked call slot_of old connected now phase reply new
-        → Walked [] old number (Connected connected) input reply.next (places_of phase) new
+        → Walked [] old number (Connected connected) input reply.next (own_places phase) new
     kicked old new number connected now input phase reply is =
         let told : reply.next ≡ Kicked = ap (λ r. r.next) is.0 in
-        plain old new number (Connected connected) input reply.next (becomes call (ap places_of is.1.1) (parted call old new connected.session now is.1.0)) (λ publish brings. told) (λ envelope fate confirms. told)
+        plain old new number (Connected connected) input reply.next (becomes call (ap own_places is.1.1) (parted call old new connected.session now is.1.0)) (λ publish brings. told) (λ envelope fate confirms. told)
 
     concluded : (next : Then) (old new : S) (connected : ConnectedClient P) (now : ℕ) (phase : ConnPhase P) → Concludes call slot_of old connected now next phase new
-        → Plain call [] (places_of (Connected connected)) (places_of phase) old new
-    concluded Go old new connected now phase concludes = still call old new (ap places_of concludes.0) concludes.1
-    concluded Close old new connected now phase concludes = becomes call (ap places_of concludes.1) (parted call old new connected.session now concludes.0)
-    concluded Kicked old new connected now phase concludes = becomes call (ap places_of concludes.1) (parted call old new connected.session now concludes.0)
+        → Plain call [] (own_places (Connected connected)) (own_places phase) old new
+    concluded Go old new connected now phase concludes = still call old new (ap own_places concludes.0) concludes.1
+    concluded Close old new connected now phase concludes = becomes call (ap own_places concludes.1) (parted call old new connected.session now concludes.0)
+    concluded Kicked old new connected now phase concludes = becomes call (ap own_places concludes.1) (parted call old new connected.session now concludes.0)
 
     packet_answered : (was_kicked : Bool) (old new : S) (number now : ℕ) (connected : ConnectedClient P) (packet : Packet) (phase : ConnPhase P) (reply : Reply)
         → AnswersUnlessKicked call slot_of was_kicked old connected now (AnswersPacket call slot_of old number connected now packet) phase reply new
-        → Walked [] old number (Connected connected) (inputs.Packet packet) reply.next (places_of phase) new
+        → Walked [] old number (Connected connected) (inputs.Packet packet) reply.next (own_places phase) new
     packet_answered true old new number now connected packet phase reply is = kicked old new number connected now _ phase reply is
     packet_answered false old new number now connected packet phase reply answers =
         further [] old answers.1 new number (Connected connected) _ reply.next (answered packet old answers.1 number now connected answers.0 reply answers.2)
         (concluded reply.next answers.1 new answers.0 now phase answers.3)
 
     heard : (overdue : Bool) (old new : S) (connected : ConnectedClient P) (now : ℕ) (phase : ConnPhase P) (reply : Reply) → IsHeard call slot_of overdue old connected now phase reply new
-        → Plain call [] (places_of (Connected connected)) (places_of phase) old new
-    heard true old new connected now phase reply is = becomes call (ap places_of is.1.1) (parted call old new connected.session now is.1.0)
-    heard false old new connected now phase reply is = still call old new (ap places_of is.1) is.2
+        → Plain call [] (own_places (Connected connected)) (own_places phase) old new
+    heard true old new connected now phase reply is = becomes call (ap own_places is.1.1) (parted call old new connected.session now is.1.0)
+    heard false old new connected now phase reply is = still call old new (ap own_places is.1) is.2
 
     tick_answered : (was_kicked : Bool) (old new : S) (connected : ConnectedClient P) (now : ℕ) (phase : ConnPhase P) (reply : Reply)
         → AnswersUnlessKicked call slot_of was_kicked old connected now (AnswersTick call slot_of old connected now) phase reply new
-        → Plain call [] (places_of (Connected connected)) (places_of phase) old new
-    tick_answered true old new connected now phase reply is = becomes call (ap places_of is.1.1) (parted call old new connected.session now is.1.0)
+        → Plain call [] (own_places (Connected connected)) (own_places phase) old new
+    tick_answered true old new connected now phase reply is = becomes call (ap own_places is.1.1) (parted call old new connected.session now is.1.0)
     tick_answered false old new connected now phase reply answers =
-        behind call old answers.0 new (beside call (places_of (Connected connected)) (swept call 256 old answers.0 now answers.1))
+        behind call old answers.0 new (beside call (own_places (Connected connected)) (swept call 256 old answers.0 now answers.1))
         (heard (is_overdue connected.terms.keep_alive (now - connected.heard)) answers.0 new connected now phase reply answers.2)
 
     first_answered : (answer : FirstAnswer) (old new : S) (number max_inflight now : ℕ) (packet : Packet) (phase : ConnPhase P) (reply : Reply)
-        → AnswersFirst call slot_of answer old number max_inflight now packet phase reply new → Plain call [] [] (places_of phase) old new
-    first_answered first.Close old new number max_inflight now packet phase reply answers = still call old new (ap places_of answers.0.over) answers.1
-    first_answered (first.Refuse refusal) old new number max_inflight now packet phase reply answers = still call old new (ap places_of answers.0.over) answers.1
+        → AnswersFirst call slot_of answer old number max_inflight now packet phase reply new → Plain call [] [] (own_places phase) old new
+    first_answered first.Close old new number max_inflight now packet phase reply answers = still call old new (ap own_places answers.0.over) answers.1
+    first_answered (first.Refuse refusal) old new number max_inflight now packet phase reply answers = still call old new (ap own_places answers.0.over) answers.1
     first_answered first.Attach old new number max_inflight now packet phase reply answers = attached call old new number now _ 0 phase reply answers.2
 
     -- an input of a connection
     pub reacted : (phase : ConnPhase P) (input : Input) (old new : S) (number now : ℕ) (between : ConnPhase P) (reply : Reply)
-        → Reacts call slot_of old number phase now input between reply new → Walked [] old number phase input reply.next (places_of between) new
+        → Reacts call slot_of old number phase now input between reply new → Walked [] old number phase input reply.next (own_places between) new
     reacted (Unconnected opened) (inputs.Packet packet) old new number now between reply is = idle old new number _ _ reply.next (first_answered (first_answer packet) old new number opened.max_inflight now packet between reply is) (λ p b. b, λ e f c. c)
     reacted (Unconnected opened) (inputs.Fault fault) old new number now between reply is =
         idle old new number _ _ reply.next (still call old new (refused_if (fault_refusal fault) between reply is.0) is.1) (λ p b. b, λ e f c. c)
     reacted (Unconnected opened) inputs.Tick old new number now between reply is =
         idle old new number _ _ reply.next (becomes call (waits_for_connect (is_late (now - opened.at)) opened between reply is.1) (swept call 256 old new now is.0)) (λ p b. b, λ e f c. c)
-    reacted (Unconnected opened) inputs.EndOfInput old new number now between reply is = idle old new number _ _ reply.next (still call old new (ap places_of is.0.over) is.1) (λ p b. b, λ e f c. c)
-    reacted (Unconnected opened) inputs.Closing old new number now between reply is = idle old new number _ _ reply.next (still call old new (ap places_of is.0.over) is.1) (λ p b. b, λ e f c. c)
+    reacted (Unconnected opened) inputs.EndOfInput old new number now between reply is = idle old new number _ _ reply.next (still call old new (ap own_places is.0.over) is.1) (λ p b. b, λ e f c. c)
+    reacted (Unconnected opened) inputs.Closing old new number now between reply is = idle old new number _ _ reply.next (still call old new (ap own_places is.0.over) is.1) (λ p b. b, λ e f c. c)
     reacted (Waiting request ticks) (inputs.Packet packet) old new number now between reply is = absurd is
     reacted (Waiting request ticks) (inputs.Fault fault) old new number now between reply is = absurd is
     reacted (Waiting request ticks) inputs.Tick old new number now between reply is =
         idle old new number _ _ reply.next (behind call old is.0 new (swept call 256 old is.0 now is.1) (tried_again call is.0 new number now request ticks between reply is.2)) (λ p b. b, λ e f c. c)
-    reacted (Waiting request ticks) inputs.EndOfInput old new number now between reply is = idle old new number _ _ reply.next (becomes call (ap places_of is.1.over) (one call old new _ is.0 refl refl refl refl)) (λ p b. b, λ e f c. c)
-    reacted (Waiting request ticks) inputs.Closing old new number now between reply is = idle old new number _ _ reply.next (becomes call (ap places_of is.1.over) (one call old new _ is.0 refl refl refl refl)) (λ p b. b, λ e f c. c)
+    reacted (Waiting request ticks) inputs.EndOfInput old new number now between reply is = idle old new number _ _ reply.next (becomes call (ap own_places is.1.over) (one call old new _ is.0 refl refl refl refl)) (λ p b. b, λ e f c. c)
+    reacted (Waiting request ticks) inputs.Closing old new number now between reply is = idle old new number _ _ reply.next (becomes call (ap own_places is.1.over) (one call old new _ is.0 refl refl refl refl)) (λ p b. b, λ e f c. c)
     reacted (Connected connected) (inputs.Packet packet) old new number now between reply is =
-        earlier old is.1 new number (Connected connected) (inputs.Packet packet) reply.next (beside call (places_of (Connected connected)) (one call old is.1 _ is.2 refl refl refl refl))
+        earlier old is.1 new number (Connected connected) (inputs.Packet packet) reply.next (beside call (own_places (Connected connected)) (one call old is.1 _ is.2 refl refl refl refl))
         (packet_answered is.0 is.1 new number now connected packet between reply is.3)
-    reacted (Connected connected) (inputs.Fault fault) old new number now between reply is = idle old new number _ _ reply.next (becomes call (ap places_of is.1.1) (parted call old new connected.session now is.1.0)) (λ p b. b, λ e f c. c)
+    reacted (Connected connected) (inputs.Fault fault) old new number now between reply is = idle old new number _ _ reply.next (becomes call (ap own_places is.1.1) (parted call old new connected.session now is.1.0)) (λ p b. b, λ e f c. c)
     reacted (Connected connected) inputs.Tick old new number now between reply is =
         idle old new number _ _ reply.next
-        (behind call old is.1 new (beside call (places_of (Connected connected)) (one call old is.1 _ is.2 refl refl refl refl)) (tick_answered is.0 is.1 new connected now between reply is.3))
+        (behind call old is.1 new (beside call (own_places (Connected connected)) (one call old is.1 _ is.2 refl refl refl refl)) (tick_answered is.0 is.1 new connected now between reply is.3))
         (λ p b. b, λ e f c. c)
-    reacted (Connected connected) inputs.EndOfInput old new number now between reply is = idle old new number _ _ reply.next (becomes call (ap places_of is.1.1) (parted call old new connected.session now is.1.0)) (λ p b. b, λ e f c. c)
-    reacted (Connected connected) inputs.Closing old new number now between reply is = idle old new number _ _ reply.next (becomes call (ap places_of is.2) (one call old new _ is.1 refl refl refl refl)) (λ p b. b, λ e f c. c)
-    reacted Ended input old new number now between reply is = idle old new number _ _ reply.next (still call old new (ap places_of is.0.over) is.1) (λ p b. b, λ e f c. c)
+    reacted (Connected connected) inputs.EndOfInput old new number now between reply is = idle old new number _ _ reply.next (becomes call (ap own_places is.1.1) (parted call old new connected.session now is.1.0)) (λ p b. b, λ e f c. c)
+    reacted (Connected connected) inputs.Closing old new number now between reply is = idle old new number _ _ reply.next (becomes call (ap own_places is.2) (one call old new _ is.1 refl refl refl refl)) (λ p b. b, λ e f c. c)
+    reacted Ended input old new number now between reply is = idle old new number _ _ reply.next (still call old new (ap own_places is.0.over) is.1) (λ p b. b, λ e f c. c)
 
     -- what is handed out after it
-    pub handed_behind : (between : ConnPhase P) (old new : S) (sent : List Packet) (phase : ConnPhase P) → Hands call slot_of old between sent phase new
-        → Plain call (fresh_messages sent) (places_of between) (places_of phase) old new
-    handed_behind (Unconnected opened) old new sent phase hands =
-        subst (λ given. Plain call given [] (places_of phase) old new) (sym (ap fresh_messages hands.0)) (still call old new (ap places_of hands.1) hands.2)
-    handed_behind (Waiting request ticks) old new sent phase hands =
-        subst (λ given. Plain call given [] (places_of phase) old new) (sym (ap fresh_messages hands.0)) (still call old new (ap places_of hands.1) hands.2)
+    handed_behind : (between : ConnPhase P) (old new : S) (sent : List Packet) (phase : ConnPhase P) → Hands call slot_of old between sent phase new
+        → HandsBehind (fresh_messages sent) between old phase new
+    handed_behind (Unconnected opened) old new sent phase hands = none_behind_it (Unconnected opened) refl old new sent phase hands
+    handed_behind (Waiting request ticks) old new sent phase hands = none_behind_it (Waiting request ticks) refl old new sent phase hands
     handed_behind (Connected connected) old new sent phase hands =
-        becomes call (ap places_of hands.3) (handed_out call old new connected.session.membership connected.session.window sent hands.0 hands.1 hands.2)
-    handed_behind Ended old new sent phase hands =
-        subst (λ given. Plain call given [] (places_of phase) old new) (sym (ap fresh_messages hands.0)) (still call old new (ap places_of hands.1) hands.2)
+        record {
+          membership = connected.session.membership;
+          its = refl;
+          hands = subst (λ places. HandsInTurn call (fresh_messages sent) connected.session.membership places old new) (sym (ap own_places hands.3))
+              (handed_out call old new connected.session.membership connected.session.window sent hands.0 hands.1 hands.2);
+        }
+    handed_behind Ended old new sent phase hands = none_behind_it Ended refl old new sent phase hands
 
     pub stepped : (old new : S) (number now : ℕ) (phase phase' : ConnPhase P) (input : Input) (packets : List Packet) (next : Then)
         → Steps call slot_of old number phase now input packets next phase' new → StepCalls call old number phase input packets next phase' new
     stepped old new number now phase phase' input packets next steps =
         let before = reacted phase input old steps.mid number now steps.between steps.reply steps.reacts in
         let behind = handed_behind steps.between steps.mid new steps.sent phase' steps.hands in
-        let calls = subst (λ n. Walked (fresh_messages steps.sent) old number phase input n (places_of phase') new) (sym steps.followed)
-        (further (fresh_messages steps.sent) old steps.mid new number phase input steps.reply.next before behind) in
+        let there = comes_to (sym behind.its) before in
+        let all = subst (λ n. All (fresh_messages steps.sent) old number phase input n (own_places phase') new) (sym steps.followed)
+        (record {
+          calls = further (fresh_messages steps.sent) old steps.mid new number phase input steps.reply.next there behind.hands.calls;
+          hands_last = record {
+            earlier = there.supply_calls;
+            last = behind.hands.calls.supply_calls;
+            both = refl;
+            none_earlier = none_of_none (handed there.supply_calls) there.hands;
+            membership = behind.membership;
+            by_then = there.places;
+            in_turn = behind.hands.in_turn;
+          };
+        }) in
         record {
-          supply_calls = calls.supply_calls;
-          made = calls.made;
-          offers = calls.offers;
-          settles = calls.settles;
+          supply_calls = all.calls.supply_calls;
+          made = all.calls.made;
+          offers = all.calls.offers;
+          settles = all.calls.settles;
           hands =
               ap fresh_messages steps.written
               ∙ replied_and_sent call slot_of phase input old steps.mid number now steps.between steps.reply steps.sent steps.reacts
-              ∙ sym calls.hands;
-          places = calls.places;
+              ∙ sym all.calls.hands;
+          hands_last = all.hands_last;
+          places = all.calls.places;
         }

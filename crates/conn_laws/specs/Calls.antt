@@ -7,6 +7,8 @@ use Rattle.group_jobs.specs.declared.fate.Fate.{Fate}
 use Rattle.group_jobs.specs.declared.message.Message.{Message}
 use Rattle.group_jobs.specs.Stamps.{Held}
 use Rattle.member_window.specs.Contents.{held_of}
+use Rattle.session_desk.specs.Everything.{place_in}
+use Rattle.session_desk.specs.declared.session.Membership.{Membership}
 use Rattle.conn_rules.specs.declared.publishing.PublishAnswer.{PublishAnswer}
 use Rattle.conn_rules.specs.declared.publishing.PublishAnswer.TheVariants as answers
 use Rattle.conn_rules.specs.Publishing.{publish_answer, message_of}
@@ -20,7 +22,7 @@ use Rattle.conn_engine.specs.declared.input.Input.TheVariants as inputs
 use Rattle.conn_engine.specs.declared.phase.ConnPhase.{ConnPhase}
 use Rattle.conn_engine.specs.declared.phase.ConnPhase.TheVariants.{Connected}
 use Rattle.conn_engine.specs.Connecting.{has_place}
-use Rattle.conn_laws.specs.Places.{places_of, KeepsPlaces}
+use Rattle.conn_laws.specs.Places.{own_places, KeepsPlaces, KeepsInTurn}
 
 -- what a call offers: to the group of which slot, from which connection, and which message
 abbrev pub offer_of : {P : Type 0} → SupplyCall P → Option (ℕ × ℕ × Message)
@@ -130,6 +132,17 @@ pub record OffersToSome {P : Type 0} (number : ℕ) (input : Input) (supply_call
   pub match : matched supply_calls ≡ (publish.topic, slots ++ others) ∷ []
   pub offers : offered supply_calls ≡ map (λ slot. (slot, number, message_of publish)) slots
 
+-- what is handed out is handed out by the last of these calls, to the place of the membership that the session has by then, and each message to that place as the call
+-- before left it; and the place that they leave is the one that the connection has after them
+pub record HandsOutLast {P : Type 0} (before : List P) (supply_calls : List (SupplyCall P)) (after : List P) : Type 0 where
+  pub earlier : List (SupplyCall P)
+  pub last : List (SupplyCall P)
+  pub both : supply_calls ≡ earlier ++ last
+  pub none_earlier : handed earlier ≡ []
+  pub membership : Membership P
+  pub by_then : KeepsPlaces before earlier (place_in membership)
+  pub in_turn : KeepsInTurn (place_in membership) last after
+
 module _ {S P : Type 0} (call : S → SupplyCall P → S → Type 0) where
   -- these calls are made, one after the other
   abbrev pub MakesAll : S → List (SupplyCall P) → S → Type 0
@@ -146,10 +159,12 @@ module _ {S P : Type 0} (call : S → SupplyCall P → S → Type 0) where
     pub made : MakesAll old supply_calls new
     pub offers : OffersToEach number input supply_calls ⊎ OffersNone phase input supply_calls next
     pub settles : SettlesOne phase input supply_calls ⊎ SettlesNone phase input supply_calls next
-    -- what is handed out goes out at once, each message in a PUBLISH of its own, in their order; and no other goes out for the first time
+    -- what is handed out is sent by this step, each message in a PUBLISH of its own, in their order; and no other is sent for the first time
     pub hands : fresh_messages sent ≡ messages_of (handed supply_calls)
+    -- it is handed to the place that the connection has after this step, one message after the other
+    pub hands_last : HandsOutLast (own_places phase) supply_calls (own_places phase')
     -- the connection has the places that it had, but for what these calls brought, took and changed
-    pub places : KeepsPlaces (places_of phase) supply_calls (places_of phase')
+    pub places : KeepsPlaces (own_places phase) supply_calls (own_places phase')
 
   -- the calls of a step in which an allocation failed: after it the connection has no place any more
   pub record FailedCalls (old : S) (number : ℕ) (phase : ConnPhase P) (input : Input) (new : S) : Type 0 where
@@ -157,4 +172,4 @@ module _ {S P : Type 0} (call : S → SupplyCall P → S → Type 0) where
     pub made : MakesAll old supply_calls new
     pub offers : OffersToSome number input supply_calls ⊎ (offered supply_calls ≡ [])
     pub settles : SettlesOne phase input supply_calls ⊎ (settled supply_calls ≡ [])
-    pub places : KeepsPlaces (places_of phase) supply_calls []
+    pub places : KeepsPlaces (own_places phase) supply_calls []

@@ -1,9 +1,10 @@
 //! The laws, each over every supply.
-ghost use Rattle.std.specs.Prelude.{◌≡◌, ◌≢◌, ◌↔◌, ℕ, List};
+ghost use Rattle.std.specs.Prelude.{◌≡◌, ◌≢◌, ◌↔◌, ℕ, List, []};
 ghost use Rattle.mqtt_packet.specs.declared.packet.Packet.{Packet};
 ghost use Rattle.conn_supply.specs.declared.reply.Then.{Then};
 ghost use Rattle.conn_supply.specs.declared.reply.Then.TheVariants.{Go};
 ghost use Rattle.conn_engine.specs.declared.input.Input.{Input};
+ghost use Rattle.conn_engine.specs.declared.input.Input.TheVariants.{EndOfInput};
 ghost use Rattle.conn_engine.specs.declared.phase.ConnectedClient.{ConnectedClient};
 ghost use Rattle.conn_engine.specs.declared.phase.ConnPhase.{ConnPhase};
 ghost use Rattle.conn_engine.specs.declared.phase.ConnPhase.TheVariants as phases;
@@ -19,7 +20,7 @@ ghost use Rattle.conn_engine.specs.Step.{Steps, FailsToStep};
 use conn_supply::{HoldingPlace, Supply};
 
 /// **A connection is over exactly where its step says so**: it has ended after a step that does not go on, and after no other.
-/// And it ends by a fault, by the end of its input, and by the broker's closing (`last`). A connection whose client has its session has one after
+/// And it ends by a fault, by the end of its input, and by the broker's closing (`last`); the end of its input is answered by nothing (`silent`). A connection whose client has its session has one after
 /// each step until it ends (`keeps`).
 pub fn ended_law<P: HoldingPlace, S: Supply<P>>()
     ensures told { (number now : ℕ) (phase phase' : ConnPhase P) (input : Input) (packets : List Packet) (next : Then) (old new : S) →
@@ -28,6 +29,8 @@ pub fn ended_law<P: HoldingPlace, S: Supply<P>>()
     ensures last { (number now : ℕ) (phase phase' : ConnPhase P) (input : Input) (packets : List Packet) (next : Then) (old new : S) →
         Steps S.call P.slot_of old number phase now input packets next phase' new →
         IsLast input → phase' ≡ phases.Ended }
+    ensures silent { (number now : ℕ) (phase phase' : ConnPhase P) (packets : List Packet) (next : Then) (old new : S) →
+        Steps S.call P.slot_of old number phase now EndOfInput packets next phase' new → packets ≡ [] }
     ensures keeps { (number now : ℕ) (connected : ConnectedClient P) (phase' : ConnPhase P) (input : Input) (packets : List Packet) (next : Then) (old new : S) →
         Steps S.call P.slot_of old number (phases.Connected connected) now input packets next phase' new → KeepsOrEnds phase' }
 {}
@@ -59,8 +62,9 @@ pub fn quota_law<P: HoldingPlace, S: Supply<P>>()
 /// - a message is offered only by the PUBLISH that brought it, once to each group that matches, in the order of their slots; where
 ///   an allocation fails, to some of them, from the first on;
 /// - a message is settled only by a PUBACK under its identifier, once, as its Reason Code says;
-/// - what is handed to a place goes out at once, each message in a PUBLISH of its own with DUP 0, in their order, and no other packet
-///   brings a message for the first time; where an allocation fails nothing goes out, and the session has what was handed;
+/// - what is handed out is sent by the same step, each message in a PUBLISH of its own with DUP 0, in their order, and no other packet
+///   brings a message for the first time; where an allocation fails nothing is sent;
+/// - it is handed to the place that the connection has then, by the last calls of the step, one after the other;
 /// - no place is lost and none is made: the connection has those that it had and that its calls brought, but for those that they took.
 pub fn calls_law<P: HoldingPlace, S: Supply<P>>()
     ensures stepped { (number now : ℕ) (phase phase' : ConnPhase P) (input : Input) (packets : List Packet) (next : Then) (old new : S) →

@@ -33,7 +33,7 @@ use Rattle.session_desk.specs.Hands.{DeskLaw}
 use Rattle.session_desk.proofs.Seen.{insert_here, insert_other, remove_here, remove_other, no_length}
 use Rattle.session_desk.proofs.Kept.{none_of}
 use Rattle.session_desk.proofs.OneHand.{law_all, law_new}
-use Rattle.final_report.specs.DeskPlaces.{places_attached, places_out, places_in}
+use Rattle.final_report.specs.DeskPlaces.{places_out, places_in}
 
 module _ {X : Type 0} where
   -- to write an entry is to take it out and to put it in
@@ -159,7 +159,7 @@ module _ {P : Type 0} (measure : P → ℕ) where
 
     -- for a client with an identifier
     balances_client : (old new : Books E P) (client : List ℕ) (request : Request) (answer : Result (Attached E P) DeskError) → DeskLaw old.rows old.made
-        → AttachesClient old client request answer new → Balances old new [] (places_attached answer)
+        → AttachesClient old client request answer new → Balances old new [] (places_given answer)
     balances_client old new client request (Ok (New session None)) law h =
         let begun = begins old old.rows old.made client request.connection session h.is_new (no_row old.rows old.made law) in
         rows_change old new (map.insert old.rows old.made (new_row client request.connection)) [] (place_in session.membership ++ []) (ap (λ b. b.rows) h.after) (ap (λ b. b.free) h.after)
@@ -186,7 +186,7 @@ module _ {P : Type 0} (measure : P → ℕ) where
 
     -- for one without
     balances_unnamed : (old new : Books E P) (request : Request) (answer : Result (Attached E P) DeskError) → DeskLaw old.rows old.made
-        → AttachesUnnamed old request.connection answer new → Balances old new [] (places_attached answer)
+        → AttachesUnnamed old request.connection answer new → Balances old new [] (places_given answer)
     balances_unnamed old new request (Ok (New session None)) law h =
         let begun = begins old old.rows old.made (assigned_name h.number) request.connection session h.is_new (no_row old.rows old.made law) in
         rows_change old new (map.insert old.rows old.made (new_row (assigned_name h.number) request.connection)) [] (place_in session.membership ++ []) (ap (λ b. b.rows) h.after) (ap (λ b. b.free) h.after)
@@ -201,7 +201,7 @@ module _ {P : Type 0} (measure : P → ℕ) where
     balances_unnamed old new request (Err NoName) law h = stays old new [] [] h.1 refl
 
     balances_attach : (client : List ℕ) (old new : Books E P) (request : Request) (answer : Result (Attached E P) DeskError) → DeskLaw old.rows old.made
-        → attaches_by client old request answer new → Balances old new [] (places_attached answer)
+        → attaches_by client old request answer new → Balances old new [] (places_given answer)
     balances_attach [] old new request answer law h = balances_unnamed old new request answer law h
     balances_attach (byte ∷ bytes) old new request answer law h = balances_client old new (byte ∷ bytes) request answer law h
 

@@ -4,19 +4,11 @@ use Rattle.session_desk.specs.declared.attached.Attached.{Attached}
 use Rattle.session_desk.specs.declared.attached.Attached.TheVariants.{New, Resumed, Replace, Busy}
 use Rattle.session_desk.specs.declared.error.DeskError.{DeskError}
 use Rattle.session_desk.specs.Calls.{Call, Attach, Withdraw, Kicked, Park, ParkAsIs, Keep, Bury, Sweep, LendPlace, TakePlace}
-use Rattle.session_desk.specs.Everything.{place_in, place_of, free_in}
-
--- the places of the sessions that an answer hands out to a connection
-abbrev pub places_attached : {E P : Type 0} → Result (Attached E P) DeskError → List P
-places_attached (Ok (New session ended)) = place_in session.membership ++ place_of ended
-places_attached (Ok (Resumed session)) = place_in session.membership
-places_attached (Ok (Replace holder)) = []
-places_attached (Ok Busy) = []
-places_attached (Err error) = []
+use Rattle.session_desk.specs.Everything.{place_in, place_of, free_in, places_given}
 
 -- the places that the answer of a call hands out
 abbrev pub places_out : {E P : Type 0} → Call E P → List P
-places_out (Attach request answer) = places_attached answer
+places_out (Attach request answer) = places_given answer
 places_out (Withdraw connection) = []
 places_out (Kicked connection answer) = []
 places_out (Park session now answer) = place_of answer

@@ -1,7 +1,10 @@
 -- What a desk has: the items of the sessions that it keeps, and places.
-use Rattle.std.specs.Prelude.{◌≡◌, ℕ, ◌+◌, List, [], ◌∷◌, map, Option, Some, None, sum_by}
+use Rattle.std.specs.Prelude.{◌≡◌, ℕ, ◌+◌, List, [], ◌∷◌, ◌++◌, map, Option, Some, None, Result, Ok, Err, sum_by}
 use Rattle.std.specs.FinMap as rows
 use Rattle.member_window.specs.Contents.{held_of}
+use Rattle.session_desk.specs.declared.attached.Attached.{Attached}
+use Rattle.session_desk.specs.declared.attached.Attached.TheVariants.{New, Resumed, Replace, Busy}
+use Rattle.session_desk.specs.declared.error.DeskError.{DeskError}
 use Rattle.session_desk.specs.declared.session.Session.{Session}
 use Rattle.session_desk.specs.declared.session.Membership.{Membership}
 use Rattle.session_desk.specs.declared.session.Membership.TheVariants.{NotMember, Member, Leaving}
@@ -27,6 +30,14 @@ place_of (Some session) = place_in session.membership
 abbrev pub free_in : {P : Type 0} → Option P → List P
 free_in None = []
 free_in (Some place) = place ∷ []
+
+-- the places of the sessions that whoever asked for one was given
+abbrev pub places_given : {E P : Type 0} → Result (Attached E P) DeskError → List P
+places_given (Ok (New session ended)) = place_in session.membership ++ place_of ended
+places_given (Ok (Resumed session)) = place_in session.membership
+places_given (Ok (Replace holder)) = []
+places_given (Ok Busy) = []
+places_given (Err error) = []
 
 -- by any measure as much as is in the sessions that the desk keeps: so these are their items, in some order
 abbrev pub AreItems : {E P : Type 0} → List (ℕ × Row E P) → List E → Type 0

@@ -18,7 +18,7 @@ use Rattle.broker_groups.specs.Answers.{Sights}
 use Rattle.conn_supply.specs.SupplyCalls.{SupplyCall}
 use Rattle.conn_supply.specs.SupplyCalls.SupplyCall.{Attach, Withdraw, Kicked, Park, ParkAsIs, Keep, Bury, Sweep, LendPlace, TakePlace, Bind, Find, Match, Offer, MayTake, Take, TakeBack, Settle, GiveBack}
 use Rattle.conn_laws.specs.Calls.{MakesAll as MakesCalls}
-use Rattle.conn_laws.specs.Places.{brought, places_given, taken}
+use Rattle.conn_laws.specs.Places.{places_brought, places_given, places_taken}
 use Rattle.shared_supply.specs.Calls.{AsksDesk, Calls, IsToldOfDesk, missing, waking}
 use Rattle.shared_supply.specs.Waking.{asking_back, freeing}
 use Rattle.shared_supply.specs.Workers.{Worker}
@@ -124,10 +124,10 @@ module _ (measure : PlaceState → ℕ) where
 
     -- what a call takes of places, and what it brings
     abbrev BalancesCall : DeskCallerState → SupplyCall PlaceState → DeskCallerState → Type 0
-    BalancesCall old call new = Balances old (sum_by measure (taken call)) (sum_by measure (brought call)) (gain call) new
+    BalancesCall old call new = Balances old (sum_by measure (places_taken call)) (sum_by measure (places_brought call)) (gain call) new
 
-    asked : (old new : Worker) (call : SupplyCall PlaceState) (its : Call Held PlaceState) → AsksDesk old its new → AreWithin old.desk → gain call ≡ 0 → sum_by measure (places_in its) ≡ sum_by measure (taken call)
-        → sum_by measure (places_out its) ≡ sum_by measure (brought call) + sum_by measure (places_lost its) → BalancesCall old.desk call new.desk
+    asked : (old new : Worker) (call : SupplyCall PlaceState) (its : Call Held PlaceState) → AsksDesk old its new → AreWithin old.desk → gain call ≡ 0 → sum_by measure (places_in its) ≡ sum_by measure (places_taken call)
+        → sum_by measure (places_out its) ≡ sum_by measure (places_brought call) + sum_by measure (places_lost its) → BalancesCall old.desk call new.desk
     asked old new call its is within none ins outs = (
       omega (
         arith,
@@ -142,18 +142,18 @@ module _ (measure : PlaceState → ℕ) where
     )
 
     -- no call of the desk, and none of a place
-    apart : (old new : DeskCallerState) (call : SupplyCall PlaceState) → new ≡ old → AreWithin old → gain call ≡ 0 → taken call ≡ [] → brought call ≡ [] → BalancesCall old call new
+    apart : (old new : DeskCallerState) (call : SupplyCall PlaceState) → new ≡ old → AreWithin old → gain call ≡ 0 → places_taken call ≡ [] → places_brought call ≡ [] → BalancesCall old call new
     apart old new call same within none takes brings =
-        let t : sum_by measure (taken call) ≡ 0 = ap (sum_by measure) takes in
-        let b : sum_by measure (brought call) ≡ 0 = ap (sum_by measure) brings in
+        let t : sum_by measure (places_taken call) ≡ 0 = ap (sum_by measure) takes in
+        let b : sum_by measure (places_brought call) ≡ 0 = ap (sum_by measure) brings in
         subst (BalancesCall old call) (sym same) (omega (arith, none, t, b), within)
 
     -- a call of a place
-    turned : (old new : DeskCallerState) (call : SupplyCall PlaceState) (place place' : PlaceState) → new ≡ old → AreWithin old → taken call ≡ place ∷ [] → brought call ≡ place' ∷ []
+    turned : (old new : DeskCallerState) (call : SupplyCall PlaceState) (place place' : PlaceState) → new ≡ old → AreWithin old → places_taken call ≡ place ∷ [] → places_brought call ≡ place' ∷ []
         → measure place' ≡ measure place + gain call → BalancesCall old call new
     turned old new call place place' same within takes brings gains =
-        let t : sum_by measure (taken call) ≡ measure place = ap (sum_by measure) takes ∙ single place in
-        let b : sum_by measure (brought call) ≡ measure place' = ap (sum_by measure) brings ∙ single place' in
+        let t : sum_by measure (places_taken call) ≡ measure place = ap (sum_by measure) takes ∙ single place in
+        let b : sum_by measure (places_brought call) ≡ measure place' = ap (sum_by measure) brings ∙ single place' in
         subst (BalancesCall old call) (sym same) (omega (arith, gains, t, b), within)
 
     module _ (group : ℕ → GroupId) (seen : Sights) where
@@ -169,7 +169,7 @@ module _ (measure : PlaceState → ℕ) where
       called (Keep session) old new is none within = asked old new (Keep session) (desk.Keep session is.0) is.1 within none refl (omega arith)
       called (Bury session) old new is none within = asked old new (Bury session) (desk.Bury session is.0) is.1 within none refl (omega arith)
       called (Sweep now answer) old new (inl same) none within =
-          apart old.desk new.desk (Sweep now answer) (ap (λ (w : Worker). w.desk) same.1) within none refl (ap (λ a. brought (Sweep now a)) same.0)
+          apart old.desk new.desk (Sweep now answer) (ap (λ (w : Worker). w.desk) same.1) within none refl (ap (λ a. places_brought (Sweep now a)) same.0)
       called (Sweep now answer) old new (inr told) none within = asked old new (Sweep now answer) (desk.Sweep now answer) told within none refl (omega arith)
       called (LendPlace slot answer) old new is none within = asked old new (LendPlace slot answer) (desk.LendPlace slot answer) is within none refl (omega arith)
       called (TakePlace place) old new is none within = asked old new (TakePlace place) (desk.TakePlace place is.0) is.1 within none refl (omega arith)
@@ -191,7 +191,7 @@ module _ (measure : PlaceState → ℕ) where
       -- all calls of a step, one after the other
       pub all_called : (calls : List (SupplyCall PlaceState)) (old new : Worker) → ((call : SupplyCall PlaceState) (before after : Worker) → Calls group seen before call after → Gains call)
           → MakesCalls (Calls group seen) old calls new → AreWithin old.desk
-          → Balances old.desk (sum_by (λ call. sum_by measure (taken call)) calls) (sum_by (λ call. sum_by measure (brought call)) calls) (sum_by gain calls) new.desk
+          → Balances old.desk (sum_by (λ call. sum_by measure (places_taken call)) calls) (sum_by (λ call. sum_by measure (places_brought call)) calls) (sum_by gain calls) new.desk
       all_called [] old new gains made within = balance_still old.desk new.desk 0 0 (ap (λ (w : Worker). w.desk) made) refl within
       all_called (call ∷ calls) old new gains made within =
           let one = called call old made.0 made.1 (gains call old made.0 made.1) within in
@@ -200,8 +200,8 @@ module _ (measure : PlaceState → ℕ) where
               arith,
               one.0,
               rest.0,
-              sum_by-cons (λ (c : SupplyCall PlaceState). sum_by measure (taken c)) call calls,
-              sum_by-cons (λ (c : SupplyCall PlaceState). sum_by measure (brought c)) call calls,
+              sum_by-cons (λ (c : SupplyCall PlaceState). sum_by measure (places_taken c)) call calls,
+              sum_by-cons (λ (c : SupplyCall PlaceState). sum_by measure (places_brought c)) call calls,
               sum_by-cons gain call calls,
             ),
             rest.1,

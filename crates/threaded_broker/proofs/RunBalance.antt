@@ -22,7 +22,7 @@ use Rattle.conn_engine.specs.declared.phase.ConnPhase.{ConnPhase}
 use Rattle.conn_engine.specs.declared.phase.ConnPhase.TheVariants.{Ended}
 use Rattle.conn_engine.specs.declared.phase.Opening.{Opening}
 use Rattle.conn_laws.specs.Calls.{MakesAll as MakesCalls}
-use Rattle.conn_laws.specs.Places.{KeepsPlaces, places_of}
+use Rattle.conn_laws.specs.Places.{KeepsPlaces, own_places}
 use Rattle.client_table.specs.Clients.{ClientState}
 use Rattle.conn_service.specs.Acts.{Act, Enters, Leaves as Left, Asks, Reads, Writes, Steps, Loses, Fails, Starves, IsFull, IsStopped, Stalls, GivesUp, Ends, Others}
 use Rattle.conn_service.specs.Lives.{Does}
@@ -49,7 +49,7 @@ fed_phase got.Failed client bytes = refl
 module _ (measure : PlaceState → ℕ) where
   -- what a connection in a phase has
   abbrev has_in : ConnPhase PlaceState → ℕ
-  has_in phase = sum_by measure (places_of phase)
+  has_in phase = sum_by measure (own_places phase)
 
   module _ {T : Type 0} where
     abbrev phase_of : ServiceState PlaceState T → ConnPhase PlaceState
@@ -123,14 +123,14 @@ module _ (measure : PlaceState → ℕ) where
       failed input calls old new supply supply' asked within =
           let step = asked.0 in
           with_calls calls step.supply_calls old new supply supply' asked.1
-          (over step.supply_calls old new supply supply' asked.2 (step_balances step.supply_calls supply supply' (places_of (phase_of old)) [] step.made step.places within))
+          (over step.supply_calls old new supply supply' asked.2 (step_balances step.supply_calls supply supply' (own_places (phase_of old)) [] step.made step.places within))
 
       stepped : (input : Input) (sent : List Packet) (next : Then) (calls : List (SupplyCall PlaceState)) (old new : ServiceState PlaceState T) (supply supply' : Worker)
           → AreOfStep group seen input sent next old supply calls new supply' → AreWithin supply.desk → BalancesService old supply calls new supply'
       stepped input sent next calls old new supply supply' asked within =
           let step = asked.0 in
           with_calls calls step.supply_calls old new supply supply' asked.1
-          (step_balances step.supply_calls supply supply' (places_of (phase_of old)) (places_of (phase_of new)) step.made step.places within)
+          (step_balances step.supply_calls supply supply' (own_places (phase_of old)) (own_places (phase_of new)) step.made step.places within)
 
       the_last : (calls : List (SupplyCall PlaceState)) (old new : ServiceState PlaceState T) (supply supply' : Worker) → AreOfTheLast group seen old supply calls new supply' → AreWithin supply.desk
           → BalancesService old supply calls new supply'
@@ -152,8 +152,8 @@ module _ (measure : PlaceState → ℕ) where
           quiet calls old new supply supply' none (ap (λ (w : Worker). w.desk) does.ended.becomes) (ap (λ (s : ServiceState PlaceState T). phase_of s) does.same) within
       acted (Asks is_kicked) calls old new supply supply' does one within =
           with_calls calls (Kicked old.client.conn.number is_kicked ∷ []) old new supply supply' one
-          (step_balances (Kicked old.client.conn.number is_kicked ∷ []) supply supply' (places_of (phase_of old)) (places_of (phase_of new)) (supply', does.asked, refl)
-          (λ measure. subst (λ (phase : ConnPhase PlaceState). sum_by measure (places_of (phase_of old)) + 0 ≡ sum_by measure (places_of phase) + 0) (sym (ap (λ (s : ServiceState PlaceState T). phase_of s) does.same)) refl) within)
+          (step_balances (Kicked old.client.conn.number is_kicked ∷ []) supply supply' (own_places (phase_of old)) (own_places (phase_of new)) (supply', does.asked, refl)
+          (λ measure. subst (λ (phase : ConnPhase PlaceState). sum_by measure (own_places (phase_of old)) + 0 ≡ sum_by measure (own_places phase) + 0) (sym (ap (λ (s : ServiceState PlaceState T). phase_of s) does.same)) refl) within)
       acted (Reads size its bytes) calls old new supply supply' does none within =
           quiet calls old new supply supply' none (ap (λ (w : Worker). w.desk) does.same)
           (ap (λ (s : ServiceState PlaceState T). phase_of s) does.does.becomes ∙ fed_phase its old.client bytes) within
