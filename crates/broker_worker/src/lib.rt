@@ -15,4 +15,4 @@ mod worker_parts;
 
 pub use worker::Worker;
 pub use worker_bells::Mailboxes;
-pub use worker_parts::{WorkerIo, WorkerParts, all_worker_parts};
+pub use worker_parts::{UnusedPoller, WorkerParts, all_worker_parts};

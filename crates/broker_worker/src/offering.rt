@@ -11,7 +11,7 @@ use broker_groups::Broker;
 use call_history::HistoryName;
 use conn_service::{Direction, Round};
 use std::sync::Wait;
-use transport::{Clock, Crossing, Transport};
+use transport::{Crossing, Transport};
 use worker_bells::SLOTS;
 use worker_connections::Poller;
 
@@ -24,9 +24,8 @@ impl<
     Q: Poller<T> + Drop,
     W: Wake + Drop,
     X: Crossing,
-    C: Clock + Drop,
     R: Wait,
-> Worker<'a, 'g, B, N, T, Q, W, X, C, R> {
+> Worker<'a, 'g, B, N, T, Q, W, X, R> {
     /// In a sweep, offers a message to a member of each group.
     pub(crate) fn offer_if(&mut self, sweeps: bool, buffer: &mut [u8; READ_SIZE])
         ensures goes { Rounds self.old.connections self.new.connections }

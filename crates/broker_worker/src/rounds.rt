@@ -11,7 +11,7 @@ use broker_groups::Broker;
 use call_history::HistoryName;
 use conn_service::{Direction, Round};
 use std::sync::Wait;
-use transport::{Clock, Crossing, Transport};
+use transport::{Crossing, Transport};
 use worker_bells::Mailboxes;
 use worker_connections::{Poller, RoundOutcome};
 
@@ -24,9 +24,8 @@ impl<
     Q: Poller<T> + Drop,
     W: Wake + Drop,
     X: Crossing,
-    C: Clock + Drop,
     R: Wait,
-> Worker<'a, 'g, B, N, T, Q, W, X, C, R> {
+> Worker<'a, 'g, B, N, T, Q, W, X, R> {
     /// Connections that may be read or written are due.
     pub(crate) fn mark_ready(&mut self)
         ensures connections { self.new.connections ≡ self.old.connections }

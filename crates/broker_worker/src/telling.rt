@@ -12,7 +12,7 @@ use broker_groups::Broker;
 use call_history::HistoryName;
 use shared_supply::AskedBack;
 use std::sync::Wait;
-use transport::{Clock, Crossing, Transport};
+use transport::{Crossing, Transport};
 use worker_bells::{Mailboxes, SLOTS};
 use worker_connections::Poller;
 
@@ -25,9 +25,8 @@ impl<
     Q: Poller<T> + Drop,
     W: Wake + Drop,
     X: Crossing,
-    C: Clock + Drop,
     R: Wait,
-> Worker<'a, 'g, B, N, T, Q, W, X, C, R> {
+> Worker<'a, 'g, B, N, T, Q, W, X, R> {
     /// Tells the others what its connections did that they may wait for: it rings for as many workers as there are messages for each group, and calls whom a
     /// session concerns.
     pub(crate) fn tell(&mut self)

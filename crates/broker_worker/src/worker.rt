@@ -19,7 +19,7 @@ use shared_supply::{SharedBroker, SharedSupply};
 use std::alloc::Global;
 use std::marker::Model;
 use std::sync::Wait;
-use transport::{Clock, Crossing, Transport};
+use transport::{Crossing, Transport};
 use worker_bells::{MOST_CONNECTIONS, Mailboxes, WorkerBells};
 use worker_connections::{Admission, Connections, Poller, Returned, ServiceTable, WorkerHandle};
 
@@ -41,7 +41,6 @@ pub struct Worker<
     Q: Poller<T>,
     W,
     X,
-    C,
     R: Wait,
 > {
     pub(crate) number: usize,
@@ -49,7 +48,6 @@ pub struct Worker<
     pub(crate) own_bells: WorkerBells<W>,
     pub(crate) mailboxes: &'a Mailboxes<W>,
     pub(crate) crossing: &'a X,
-    pub(crate) clock: C,
     pub(crate) due: Marks,
     // The broker closes.
     pub(crate) closing: bool,
@@ -58,8 +56,8 @@ pub struct Worker<
     pub(crate) sharing: Sharing,
 }
 
-impl<'a, 'g, B: Broker, N: HistoryName, T: Transport + Drop, Q: Poller<T>, W, X, C, R: Wait> Model
-    for Worker<'a, 'g, B, N, T, Q, W, X, C, R> {
+impl<'a, 'g, B: Broker, N: HistoryName, T: Transport + Drop, Q: Poller<T>, W, X, R: Wait> Model
+    for Worker<'a, 'g, B, N, T, Q, W, X, R> {
     ghost use Rattle.broker_worker.specs.Resting.{WorkerState};
 
     ghost Value = { WorkerState T };
@@ -76,9 +74,8 @@ impl<
     Q: Poller<T> + Drop,
     W: Wake + Drop,
     X: Crossing,
-    C: Clock + Drop,
     R: Wait,
-> Worker<'a, 'g, B, N, T, Q, W, X, C, R> {
+> Worker<'a, 'g, B, N, T, Q, W, X, R> {
     /// A worker that has no connection yet; those of the worker `n` will have the numbers of its share from `n` shares on. It receives through the channel of its parts, publishes through the ports of its handle, through which nothing was published,
     /// and calls the desk as the caller of its handle, which made no call.
     ///
@@ -90,10 +87,10 @@ impl<
         alloc: Global,
         shared_broker: &'a SharedBroker<'g, B, N>,
         handle: WorkerHandle<B, N>,
-        worker_parts: WorkerParts<T, Q, W, C>,
+        worker_parts: WorkerParts<T, Q, W>,
         mailboxes: &'a Mailboxes<W>,
         crossing: &'a X,
-    ) -> Result<Worker<'a, 'g, B, N, T, Q, W, X, C, R>, WorkerHandle<B, N>>
+    ) -> Result<Worker<'a, 'g, B, N, T, Q, W, X, R>, WorkerHandle<B, N>>
         requires received { worker_parts.receiver.received ≡ [] }
         requires unused { IsUnused handle.ports handle.desk }
         ensures fresh { IfOk result (λ worker. AreFresh worker_parts.receiver handle.ports worker.connections) }
@@ -115,7 +112,7 @@ impl<
         let WorkerParts {
             number,
             share: _,
-            worker_io,
+            unused_poller,
             receiver,
             own_bells,
             due,
@@ -123,29 +120,20 @@ impl<
         } = worker_parts;
         let WorkerHandle { key, ports, desk } = handle;
         let supply = SharedSupply::new(rt, alloc, shared_broker, key, ports, known, desk);
-        let (poller, clock) = worker_io.into_parts();
+        let poller = unused_poller.into_inner();
         let connections = Connections::new(first, receiver, table, supply, members, poller);
-        Ok(Worker::of(
-            number,
-            connections,
-            clock,
-            own_bells,
-            due,
-            mailboxes,
-            crossing,
-        ))
+        Ok(Worker::of(number, connections, own_bells, due, mailboxes, crossing))
     }
 
     /// A worker of a number, which has these connections.
     fn of(
         number: usize,
         connections: Connections<'a, 'g, B, N, T, Q, R>,
-        clock: C,
         own_bells: WorkerBells<W>,
         due: Marks,
         mailboxes: &'a Mailboxes<W>,
         crossing: &'a X,
-    ) -> Worker<'a, 'g, B, N, T, Q, W, X, C, R>
+    ) -> Worker<'a, 'g, B, N, T, Q, W, X, R>
         ensures { result.connections ≡ connections.entry }
     {
         Worker {
@@ -154,7 +142,6 @@ impl<
             own_bells,
             mailboxes,
             crossing,
-            clock,
             due,
             closing: false,
             waits: false,
@@ -222,7 +209,7 @@ impl<
         self.tell();
     }
 
-    /// Waits for so many milliseconds at most, looks at the clock, and takes the connections that were sent for it.
+    /// Waits for so many milliseconds at most, and takes the connections that were sent for it.
     fn wait(&mut self, rt: &R, pause: u64)
         requires rests { MayWait pause self.old }
         requires ticked { AreTicked self.old.connections.sweeps.latest self.old.connections.cells }
@@ -230,7 +217,7 @@ impl<
         ensures same { StaysOf self.old.connections self.new.connections }
         ensures begun { self.new.connections.sweeps.begun ≡ self.old.connections.sweeps.begun }
     {
-        let called = self.connections.wait(rt, pause, &mut self.clock);
+        let called = self.connections.wait(rt, pause);
         if called {
             self.answer(rt);
         }
@@ -279,7 +266,7 @@ impl<
         ensures receiver { result.receiver ≡ self.entry.connections.receiver }
         ensures served { result.served ≡ self.entry.connections.served }
         ensures counted { live self.entry.connections ≡ 0 → AreCounted (length self.entry.connections.receiver.received) result.served }
-        ensures closed { Q.closed result.poller ≡ self.entry.connections.closed }
+        ensures polled { Q.polled result.poller ≡ self.entry.connections.polled }
         ensures ran { HasRunTo B.group B.Seen.Witness T.counts T.given T.accepted (run_of self.entry.connections) }
         ensures ports { live self.entry.connections ≡ 0 → result.handle.ports ≡ self.entry.connections.supply.ports }
         ensures known { live self.entry.connections ≡ 0 → result.known ≡ self.entry.connections.supply.known }
@@ -291,14 +278,12 @@ impl<
             own_bells,
             mailboxes: _,
             crossing: _,
-            clock,
             due,
             closing: _,
             waits: _,
             sharing: _,
         } = self;
         drop(own_bells);
-        drop(clock);
         drop(due);
         connections.into_parts()
     }

@@ -2,7 +2,7 @@
 ghost use Rattle.std.specs.Prelude.{◌≡◌, ◌≤◌, ◌++◌, ℕ, [], ◌∷◌, length, IfOk, OnOk};
 ghost use Rattle.conn_channel.specs.Ends.{AreReceivers};
 ghost use Rattle.broker_worker.specs.Parts.{ArePartsOf};
-ghost use Rattle.worker_connections.specs.Closing.{HasClosedNone};
+ghost use Rattle.worker_connections.specs.Polling.{HasNoCalls};
 
 use crate::marks::Marks;
 use bell::Wake;
@@ -14,64 +14,61 @@ use transport::Transport;
 use worker_bells::{Held, Interest, Mailboxes, Members, WorkerBells, all_own_bells, share_of};
 use worker_connections::{Arrived, Poller};
 
-/// Where a worker waits, and its clock. Contracts see it as the poller, which closed no transport yet.
+/// Where a worker waits. Contracts see it as the poller, which was not used yet.
 #[derive(Drop)]
-pub struct WorkerIo<T: Transport, Q: Poller<T>, C> {
+pub struct UnusedPoller<T: Transport, Q: Poller<T>> {
     poller: Q,
-    clock: C,
     transports: PhantomData<T>,
 }
 
-impl<T: Transport, Q: Poller<T>, C> Model for WorkerIo<T, Q, C> {
-    ghost use Rattle.worker_connections.specs.Closing.{HasClosedNone};
+impl<T: Transport, Q: Poller<T>> Model for UnusedPoller<T, Q> {
+    ghost use Rattle.worker_connections.specs.Polling.{HasNoCalls};
 
     ghost Value = { Q };
 
     ghost view = { λ g. g.poller };
 
-    ghost invariant = { λ g. HasClosedNone (Q.closed g.poller) };
+    ghost invariant = { λ g. HasNoCalls (Q.polled g.poller) };
 }
 
-impl<T: Transport, Q: Poller<T>, C> WorkerIo<T, Q, C> {
-    /// A worker waits at this poller, which closed no transport yet, and has this clock.
-    pub fn new(poller: Q, clock: C) -> WorkerIo<T, Q, C>
-        requires { HasClosedNone (Q.closed poller) }
+impl<T: Transport, Q: Poller<T>> UnusedPoller<T, Q> {
+    /// A poller that was not used yet.
+    pub fn new(poller: Q) -> UnusedPoller<T, Q>
+        requires { HasNoCalls (Q.polled poller) }
         ensures { result ≡ poller }
     {
-        WorkerIo {
+        UnusedPoller {
             poller,
-            clock,
             transports: PhantomData,
         }
     }
 
-    /// The poller and the clock.
-    pub(crate) fn into_parts(self) -> (Q, C)
-        ensures same { result.0 ≡ self }
-        ensures none_closed { HasClosedNone (Q.closed result.0) }
+    /// The poller.
+    pub(crate) fn into_inner(self) -> Q
+        ensures same { result ≡ self }
+        ensures none_polled { HasNoCalls (Q.polled result) }
     {
-        let WorkerIo {
+        let UnusedPoller {
             poller,
-            clock,
             transports: _,
         } = self;
-        (poller, clock)
+        poller
     }
 }
 
 /// What the worker of a number has for itself. Contracts see it as a `PartsState`: its number, how many connections it has at most, and its end of the channel.
 #[derive(Drop)]
-pub struct WorkerParts<T: Transport + Drop, Q: Poller<T>, W, C> {
+pub struct WorkerParts<T: Transport + Drop, Q: Poller<T>, W> {
     pub(crate) number: usize,
     pub(crate) share: u16,
-    pub(crate) worker_io: WorkerIo<T, Q, C>,
+    pub(crate) unused_poller: UnusedPoller<T, Q>,
     pub(crate) receiver: Receiver<Arrived<T>>,
     pub(crate) own_bells: WorkerBells<W>,
     pub(crate) due: Marks,
     pub(crate) members: Members,
 }
 
-impl<T: Transport + Drop, Q: Poller<T>, W, C> Model for WorkerParts<T, Q, W, C> {
+impl<T: Transport + Drop, Q: Poller<T>, W> Model for WorkerParts<T, Q, W> {
     ghost use Rattle.std.specs.Prelude.{◌≡◌, length};
     ghost use Rattle.broker_worker.specs.Parts.{PartsState};
 
@@ -82,30 +79,30 @@ impl<T: Transport + Drop, Q: Poller<T>, W, C> Model for WorkerParts<T, Q, W, C> 
     ghost invariant = { λ k. length k.members ≡ k.share };
 }
 
-/// The parts of each worker that has a mailbox, the last worker's first, with the pollers and clocks in the order of numbers. They receive from the channel of this sender.
+/// The parts of each worker that has a mailbox, the last worker's first, with the pollers in the order of numbers. They receive from the channel of this sender.
 ///
 /// # Errors
 ///
 /// Out of memory.
-pub fn all_worker_parts<T: Transport + Drop, Q: Poller<T> + Drop, W: Wake + Drop, C: Drop>(
+pub fn all_worker_parts<T: Transport + Drop, Q: Poller<T> + Drop, W: Wake + Drop>(
     alloc: Global,
-    worker_io: Vec<WorkerIo<T, Q, C>>,
+    unused_pollers: Vec<UnusedPoller<T, Q>>,
     mailboxes: &Mailboxes<W>,
     sender: &Sender<Arrived<T>>,
     receivers: Vec<Receiver<Arrived<T>>>,
-) -> Result<Vec<WorkerParts<T, Q, W, C>>, NoMemory>
-    requires receivers { AreReceivers sender.now.channel (length worker_io.items) receivers.items }
-    ensures count { IfOk result (λ all_worker_parts. length all_worker_parts.items ≡ length worker_io.items) }
-    ensures each { IfOk result (λ all_worker_parts. (share : ℕ) × ArePartsOf (length worker_io.items) share sender.now.channel all_worker_parts.items) }
+) -> Result<Vec<WorkerParts<T, Q, W>>, NoMemory>
+    requires receivers { AreReceivers sender.now.channel (length unused_pollers.items) receivers.items }
+    ensures count { IfOk result (λ all_worker_parts. length all_worker_parts.items ≡ length unused_pollers.items) }
+    ensures each { IfOk result (λ all_worker_parts. (share : ℕ) × ArePartsOf (length unused_pollers.items) share sender.now.channel all_worker_parts.items) }
 {
-    let mut worker_io = worker_io;
+    let mut unused_pollers = unused_pollers;
     let mut receivers = receivers;
-    let mut all_own_bells = all_own_bells(alloc, mailboxes, worker_io.len())?;
-    let mut all_worker_parts = Vec::with_capacity(alloc, worker_io.len())?;
+    let mut all_own_bells = all_own_bells(alloc, mailboxes, unused_pollers.len())?;
+    let mut all_worker_parts = Vec::with_capacity(alloc, unused_pollers.len())?;
     add_all_worker_parts(
         alloc,
         &mut all_worker_parts,
-        &mut worker_io,
+        &mut unused_pollers,
         sender,
         &mut receivers,
         &mut all_own_bells,
@@ -114,29 +111,29 @@ pub fn all_worker_parts<T: Transport + Drop, Q: Poller<T> + Drop, W: Wake + Drop
 }
 
 /// The parts of all workers, the last worker's first.
-fn add_all_worker_parts<T: Transport + Drop, Q: Poller<T> + Drop, W: Drop, C: Drop>(
+fn add_all_worker_parts<T: Transport + Drop, Q: Poller<T> + Drop, W: Drop>(
     alloc: Global,
-    all_worker_parts: &mut Vec<WorkerParts<T, Q, W, C>>,
-    worker_io: &mut Vec<WorkerIo<T, Q, C>>,
+    all_worker_parts: &mut Vec<WorkerParts<T, Q, W>>,
+    unused_pollers: &mut Vec<UnusedPoller<T, Q>>,
     sender: &Sender<Arrived<T>>,
     receivers: &mut Vec<Receiver<Arrived<T>>>,
     all_own_bells: &mut Vec<WorkerBells<W>>,
 ) -> Result<(), NoMemory>
     requires none { all_worker_parts.old.items ≡ [] }
-    requires receivers { AreReceivers sender.now.channel (length worker_io.old.items) receivers.old.items }
-    requires all_own_bells { length all_own_bells.old.items ≡ length worker_io.old.items }
-    ensures count { OnOk result (length all_worker_parts.new.items ≡ length worker_io.old.items) }
-    ensures each { OnOk result ((share : ℕ) × ArePartsOf (length worker_io.old.items) share sender.now.channel all_worker_parts.new.items) }
+    requires receivers { AreReceivers sender.now.channel (length unused_pollers.old.items) receivers.old.items }
+    requires all_own_bells { length all_own_bells.old.items ≡ length unused_pollers.old.items }
+    ensures count { OnOk result (length all_worker_parts.new.items ≡ length unused_pollers.old.items) }
+    ensures each { OnOk result ((share : ℕ) × ArePartsOf (length unused_pollers.old.items) share sender.now.channel all_worker_parts.new.items) }
 {
-    let share = share_of(worker_io.len());
-    'all_worker_parts: while let Some(own) = worker_io.pop() {
+    let share = share_of(unused_pollers.len());
+    'all_worker_parts: while let Some(own) = unused_pollers.pop() {
         let (Some(receiver), Some(own_bells)) = (receivers.pop(), all_own_bells.pop()) else {
             unreachable!()
         };
         add_worker_parts(
             alloc,
             all_worker_parts,
-            worker_io.len(),
+            unused_pollers.len(),
             share,
             own,
             receiver,
@@ -147,19 +144,19 @@ fn add_all_worker_parts<T: Transport + Drop, Q: Poller<T> + Drop, W: Drop, C: Dr
 }
 
 /// The parts of one more, the worker of a number.
-fn add_worker_parts<T: Transport + Drop, Q: Poller<T> + Drop, W: Drop, C: Drop>(
+fn add_worker_parts<T: Transport + Drop, Q: Poller<T> + Drop, W: Drop>(
     alloc: Global,
-    all_worker_parts: &mut Vec<WorkerParts<T, Q, W, C>>,
+    all_worker_parts: &mut Vec<WorkerParts<T, Q, W>>,
     number: usize,
     share: u16,
-    worker_io: WorkerIo<T, Q, C>,
+    unused_poller: UnusedPoller<T, Q>,
     receiver: Receiver<Arrived<T>>,
     own_bells: WorkerBells<W>,
 ) -> Result<(), NoMemory>
     ensures { OnOk result (all_worker_parts.new.items ≡ all_worker_parts.old.items ++ record { number = number; share = share; receiver = receiver } ∷ []) }
 {
     let Ok((due, members)) = blank(alloc, usize::from(share)) else {
-        drop(worker_io);
+        drop(unused_poller);
         drop(receiver);
         drop(own_bells);
         return Err(NoMemory);
@@ -167,7 +164,7 @@ fn add_worker_parts<T: Transport + Drop, Q: Poller<T> + Drop, W: Drop, C: Drop>(
     all_worker_parts.push(WorkerParts {
         number,
         share,
-        worker_io,
+        unused_poller,
         receiver,
         own_bells,
         due,

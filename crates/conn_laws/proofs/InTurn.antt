@@ -1,5 +1,5 @@
 -- Calls by which a place is handed messages in turn, each as the call before left it.
-use Rattle.std.proofs.Common.{◌≡◌, ℕ, List, [], ◌∷◌, ◌++◌, filter_map, Option, None, refl, sym, subst}
+use Rattle.std.proofs.Common.{◌≡◌, List, [], ◌∷◌, ◌++◌, filter_map, Option, None, refl, sym, subst}
 use Rattle.group_jobs.specs.Stamps.{Held}
 use Rattle.conn_supply.specs.SupplyCalls.{SupplyCall}
 use Rattle.conn_laws.specs.Calls.{offer_of, match_of, settlement_of, hand_out_of}

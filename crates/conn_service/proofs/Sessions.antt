@@ -1,7 +1,9 @@
 -- What a step does for its session.
-use Rattle.std.proofs.Common.{ℕ, Bool, List, Option, inl, inr}
+use Rattle.std.proofs.Common.{ℕ, Bool, List, Option, subst, inl, inr}
 use Rattle.transport.specs.declared.counts.Counts.{Counts}
 use Rattle.conn_supply.specs.SupplyCalls.{SupplyCall}
+use Rattle.conn_laws.specs.Transcripts.{Transcribes}
+use Rattle.conn_laws.proofs.Ended.{silent}
 use Rattle.conn_laws.proofs.Failing as failing
 use Rattle.conn_laws.proofs.Transcripts.{transcribed}
 use Rattle.conn_engine.specs.declared.input.Input.TheVariants as inputs
@@ -16,11 +18,12 @@ module _ {S P T : Type 0} (call : S → SupplyCall P → S → Type 0) (begins e
   given_up : (now : ℕ) (client client' : ClientState P) (supply supply' : S) → IsGivenUp call slot_of supply client now inputs.EndOfInput client' supply'
       → TellsOfTheLast call client.conn.number client.conn.phase supply client'.conn.phase supply'
   given_up now client client' supply supply' (inl moved) =
+      let at = moment_of client now in
+      let none = silent call slot_of supply supply' client.conn.number at client.conn.phase client'.conn.phase moved.0.packets moved.0.next moved.1.stepped in
       inl (
-        moved.0.packets,
         moved.0.next,
-        (λ going. transcribed call slot_of supply supply' client.conn.number (moment_of client now) client.conn.phase client'.conn.phase inputs.EndOfInput moved.0.packets moved.0.next
-            moved.1.stepped going),
+        (λ going. subst (λ packets. Transcribes call supply client.conn.number client.conn.phase inputs.EndOfInput packets moved.0.next client'.conn.phase supply') none
+            (transcribed call slot_of supply supply' client.conn.number at client.conn.phase client'.conn.phase inputs.EndOfInput moved.0.packets moved.0.next moved.1.stepped going)),
       )
   given_up now client client' supply supply' (inr failed) =
       inr (failing.failed call slot_of supply supply' client.conn.number (moment_of client now) client.conn.phase inputs.EndOfInput failed.failed)

@@ -9,7 +9,6 @@ use Rattle.session_desk.specs.declared.session.Session.{Session}
 use Rattle.session_desk.specs.Attaching.{Request}
 use Rattle.session_desk.specs.declared.attached.Attached.{Attached}
 use Rattle.session_desk.specs.declared.error.DeskError.{DeskError}
-use Rattle.mqtt_packet.specs.declared.packet.Packet.{Packet}
 use Rattle.conn_supply.specs.declared.reply.Then.{Then}
 use Rattle.conn_supply.specs.SupplyCalls.{SupplyCall}
 use Rattle.conn_supply.specs.SupplyCalls.SupplyCall.{Attach}
@@ -22,10 +21,10 @@ use Rattle.conn_service.specs.Services.{ServiceState}
 use Rattle.conn_service.specs.Acts.{Act, Steps, Loses, Fails, IsFull, GivesUp, packets_sent}
 
 module _ {S P : Type 0} (call : S → SupplyCall P → S → Type 0) where
-  -- where a connection is given up, the end of the stream is its last step: that does the same for its session, or wanted memory
+  -- where a connection is given up, the end of the stream is its last step, which sends nothing: that does the same for its session, or wanted memory
   abbrev pub TellsOfTheLast : ℕ → ConnPhase P → S → ConnPhase P → S → Type 0
   TellsOfTheLast number phase supply phase' supply' =
-      ((packets : List Packet) × (next : Then) × (IsNotEnding phase → Transcribes call supply number phase inputs.EndOfInput packets next phase' supply'))
+      ((next : Then) × (IsNotEnding phase → Transcribes call supply number phase inputs.EndOfInput [] next phase' supply'))
       ⊎ FailedCalls call supply number phase inputs.EndOfInput supply'
 
 module _ {S P T : Type 0} (call : S → SupplyCall P → S → Type 0) where

@@ -1,8 +1,5 @@
 -- The places that the calls of a desk hand in and out; and what the calls of a history count for, by their numbers.
-use Rattle.std.specs.Prelude.{ℕ, List, [], ◌∷◌, ◌++◌, Option, Some, None, Result, Ok, Err}
-use Rattle.session_desk.specs.declared.attached.Attached.{Attached}
-use Rattle.session_desk.specs.declared.attached.Attached.TheVariants.{New, Resumed, Replace, Busy}
-use Rattle.session_desk.specs.declared.error.DeskError.{DeskError}
+use Rattle.std.specs.Prelude.{ℕ, List, [], ◌∷◌, Option, Some, None}
 use Rattle.session_desk.specs.Calls.{Call, Attach, Withdraw, Kicked, Park, ParkAsIs, Keep, Bury, Sweep, LendPlace, TakePlace}
 use Rattle.session_desk.specs.Everything.{place_in, place_of, free_in, places_given}
 

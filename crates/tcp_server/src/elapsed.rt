@@ -1,7 +1,6 @@
 //! The clock of a broker.
 use std::rt::Clock as SystemClock;
 use std::time::Instant;
-use transport::Clock;
 
 /// Tells how many milliseconds went by since the broker began. It never goes back, and stands where the system's clock can't be read.
 #[derive(Drop)]
@@ -20,10 +19,9 @@ impl<'a, R: SystemClock> Elapsed<'a, R> {
             latest: 0,
         }
     }
-}
 
-impl<'a, R: SystemClock> Clock for Elapsed<'a, R> {
-    fn now(&mut self) -> u64 {
+    /// How many milliseconds went by.
+    pub(crate) fn now(&mut self) -> u64 {
         if let Ok(elapsed) = self.start.elapsed(self.rt) {
             let millis = u64::try_from(elapsed.as_millis()).unwrap_or(u64::MAX);
             self.latest = self.latest.max(millis);

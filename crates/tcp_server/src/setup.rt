@@ -1,9 +1,9 @@
-//! Where the workers of a broker wait, and by what clock.
+//! Where the workers of a broker wait.
 ghost use Rattle.std.specs.Prelude.{◌≡◌, length, IfSome};
 
 use crate::elapsed::Elapsed;
 use crate::socket_poller::SocketPoller;
-use broker_worker::WorkerIo;
+use broker_worker::UnusedPoller;
 use conn_rules::MaxInflight;
 use mio::net::TcpStream;
 use std::alloc::Global;
@@ -18,10 +18,9 @@ use worker_pool::PoolSetup;
 pub(crate) type SocketSetup<'a, R> = PoolSetup<
     'a,
     Socket<TcpStream>,
-    SocketPoller,
+    SocketPoller<'a, R>,
     Alarm,
     OpenCrossing,
-    Elapsed<'a, R>,
 >;
 
 /// What so many workers need, whose clocks begin now. `None` where an allocation fails, or the system refuses.
@@ -32,22 +31,21 @@ pub(crate) fn socket_setup<'a, R: Net + SystemClock>(
     crossing: &'a OpenCrossing,
     max_inflight: MaxInflight,
 ) -> Option<SocketSetup<'a, R>>
-    ensures count { IfSome result (λ setup. length setup.worker_io.items ≡ count) }
+    ensures count { IfSome result (λ setup. length setup.unused_pollers.items ≡ count) }
     ensures limit { IfSome result (λ setup. setup.max_inflight ≡ max_inflight) }
 {
     let start = Instant::now(rt).ok()?;
-    let mut worker_io = Vec::with_capacity(alloc, count).ok()?;
+    let mut unused_pollers = Vec::with_capacity(alloc, count).ok()?;
     let mut alarms = Vec::with_capacity(alloc, count).ok()?;
     'reactors: for worker in 0..count {
         let _ = worker;
         let (reactor, alarm) = Reactor::open(rt, alloc).ok()?;
-        let poller = SocketPoller::new(reactor);
-        let clock = Elapsed::since(rt, start);
-        worker_io.push(WorkerIo::new(poller, clock)).ok()?;
+        let poller = SocketPoller::new(reactor, Elapsed::since(rt, start));
+        unused_pollers.push(UnusedPoller::new(poller)).ok()?;
         alarms.push(alarm).ok()?;
     }
     Some(PoolSetup {
-        worker_io,
+        unused_pollers,
         alarms,
         crossing,
         max_inflight,

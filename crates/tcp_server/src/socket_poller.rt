@@ -1,27 +1,30 @@
-//! A worker waits at a reactor for its sockets.
+//! A worker waits at a reactor for its sockets, and looks at the clock of its broker.
 ghost use Rattle.std.specs.Prelude.{◌≡◌, None};
 
+use crate::elapsed::Elapsed;
 use mio::net::TcpStream;
+use std::rt::Clock as SystemClock;
 use std::sync::Wait;
 use std::time::Duration;
 use tcp_edge::{Reactor, Socket};
-use worker_connections::Poller;
+use worker_connections::{Poller, Woken};
 
-/// A reactor, as a worker waits there.
+/// A reactor, as a worker waits there, and a clock.
 #[derive(Drop)]
-pub(crate) struct SocketPoller {
+pub(crate) struct SocketPoller<'a, R> {
     reactor: Reactor,
+    clock: Elapsed<'a, R>,
 }
 
-impl SocketPoller {
-    /// A worker waits at this reactor.
-    pub(crate) fn new(reactor: Reactor) -> SocketPoller {
-        SocketPoller { reactor }
+impl<'a, R: SystemClock> SocketPoller<'a, R> {
+    /// A worker waits at this reactor, and has this clock.
+    pub(crate) fn new(reactor: Reactor, clock: Elapsed<'a, R>) -> SocketPoller<'a, R> {
+        SocketPoller { reactor, clock }
     }
 }
 
-impl Poller<Socket<TcpStream>> for SocketPoller {
-    ghost closed = { λ _. None };
+impl<'a, R: SystemClock> Poller<Socket<TcpStream>> for SocketPoller<'a, R> {
+    ghost polled = { λ _. None };
 
     fn register(&mut self, transport: &mut Socket<TcpStream>) -> Option<usize> {
         self.reactor.register(transport).ok()
@@ -36,10 +39,14 @@ impl Poller<Socket<TcpStream>> for SocketPoller {
         }
     }
 
-    fn wait<R: Wait>(&mut self, rt: &R, at_most: u64) -> bool {
-        match self.reactor.wait(rt, Duration::from_millis(at_most)) {
-            Ok(called) => called,
-            Err(_) => false,
+    fn wait<W: Wait>(&mut self, rt: &W, at_most: u64) -> Woken {
+        let called = self
+            .reactor
+            .wait(rt, Duration::from_millis(at_most))
+            .unwrap_or(false);
+        Woken {
+            called,
+            now: self.clock.now(),
         }
     }
 

@@ -134,7 +134,7 @@ module _ (measure : PlaceState → ℕ) where
 
       the_last : (calls : List (SupplyCall PlaceState)) (old new : ServiceState PlaceState T) (supply supply' : Worker) → AreOfTheLast group seen old supply calls new supply' → AreWithin supply.desk
           → BalancesService old supply calls new supply'
-      the_last calls old new supply supply' (inl asked) within = stepped inputs.EndOfInput asked.0 asked.1 calls old new supply supply' asked.2 within
+      the_last calls old new supply supply' (inl asked) within = stepped inputs.EndOfInput [] asked.0 calls old new supply supply' asked.1 within
       the_last calls old new supply supply' (inr asked) within = failed inputs.EndOfInput calls old new supply supply' asked within
 
       -- one at the transport

@@ -1,5 +1,5 @@
 //! A broker that is served to its end.
-ghost use Rattle.std.specs.Prelude.{◌≡◌, ◌+◌, ◌≤◌, List, [], All, length, map, take, vec_capacity, IfOk, MatchResult};
+ghost use Rattle.std.specs.Prelude.{◌≡◌, ◌+◌, ◌≤◌, List, All, length, map, take, IfOk, MatchResult};
 ghost use mathlib.Core.List.{IsPrefix};
 ghost use Rattle.mqtt_topic.specs.Names.{Share as ShareState};
 ghost use Rattle.mqtt_topic.specs.Routes.{most_routes};
@@ -29,7 +29,7 @@ use std::alloc::Global;
 use std::rt::Clock as SystemClock;
 use std::sync::Wait;
 use std::thread::Threads;
-use transport::{Clock, Crossing, Source, Transport};
+use transport::{Crossing, Source, Transport};
 use worker_connections::{Poller, ServedCounts, WorkerHandle};
 use worker_pool::{Closer, PoolSetup, Pooled, Taken, Unbegun, Watch, run};
 
@@ -119,7 +119,6 @@ pub fn serve<
     Q: Poller<T> + Drop + Send,
     W: Wake + Drop + Send + Sync,
     X: Crossing + Sync,
-    C: Clock + Drop + Send,
     I: Send,
     D: Watch<I> + Send,
     R: Threads + Wait + SystemClock + Sync,
@@ -128,7 +127,7 @@ pub fn serve<
     alloc: Global,
     broker: OpenBroker<'g, B, N>,
     shares: &[Share],
-    setup: PoolSetup<'_, T, Q, W, X, C>,
+    setup: PoolSetup<'_, T, Q, W, X>,
     source: S,
     closers: Closers<'_, B>,
     watch: &mut D,
@@ -136,9 +135,9 @@ pub fn serve<
 ) -> Result<Outcome<'g, B, N, S, Q>, NoMemory>
 where
     B::Seen: LawfulWitness + Send + Sync,
-    requires setup { length setup.worker_io.items ≡ broker.workers }
+    requires setup { length setup.unused_pollers.items ≡ broker.workers }
     ensures headline { IfOk result (λ outcome. (came : List T) × Gave S.arrived source came outcome.taken.source × (outcome.taken.came ≡ length came)
-        × KeepsTheHeadline B.group B.Seen.Witness T.counts T.given T.accepted broker.entry.workers setup.entry.max_inflight came broker.entry.caller outcome.caller outcome.shares.items outcome.ended.answers.items outcome.ended.strangers.items outcome.served.items (map Q.closed outcome.pollers.items)) }
+        × KeepsTheHeadline B.group B.Seen.Witness T.counts T.given T.accepted broker.entry.workers setup.entry.max_inflight came broker.entry.caller outcome.caller outcome.shares.items outcome.ended.answers.items outcome.ended.strangers.items outcome.served.items (map Q.polled outcome.pollers.items)) }
     ensures closed { IfOk result (λ outcome. outcome.drained ≡ B.gate) }
     ensures taken { IfOk result (λ outcome. (S.tally outcome.taken.source).arrivals ≡ (S.tally source).arrivals + outcome.taken.came) }
     ensures ends { IfOk result (λ outcome. EndedAs S.tally outcome.taken.end source outcome.taken.source) }
@@ -185,7 +184,6 @@ pub fn serve_until_closed<
     Q: Poller<T> + Drop + Send,
     W: Wake + Drop + Send + Sync,
     X: Crossing + Sync,
-    C: Clock + Drop + Send,
     I: Send,
     D: Watch<I> + Send,
     R: Threads + Wait + SystemClock + Sync,
@@ -194,7 +192,7 @@ pub fn serve_until_closed<
     alloc: Global,
     broker: OpenBroker<'g, B, N>,
     shares: &[Share],
-    setup: PoolSetup<'_, T, Q, W, X, C>,
+    setup: PoolSetup<'_, T, Q, W, X>,
     source: S,
     closers: Closers<'_, B>,
     watch: &mut D,
@@ -202,10 +200,10 @@ pub fn serve_until_closed<
 ) -> Result<Closed<'g, B, N, S, Q>, NoMemory>
 where
     B::Seen: Send + Sync,
-    requires setup { length setup.worker_io.items ≡ broker.workers }
+    requires setup { length setup.unused_pollers.items ≡ broker.workers }
     ensures ports { IfOk result (λ closed. length closed.ports.items ≡ broker.entry.workers) }
     ensures run { IfOk result (λ closed. (came : List T) × Gave S.arrived source came closed.taken.source × (closed.taken.came ≡ length came)
-        × RunsUntilClosed B.group B.Seen.Witness T.counts T.given T.accepted setup.entry.max_inflight came broker.entry.caller closed.caller closed.shares.items closed.ports.items closed.served.items (map Q.closed closed.pollers.items)) }
+        × RunsUntilClosed B.group B.Seen.Witness T.counts T.given T.accepted setup.entry.max_inflight came broker.entry.caller closed.caller closed.shares.items closed.ports.items closed.served.items (map Q.polled closed.pollers.items)) }
     ensures closed { IfOk result (λ closed. closed.drained ≡ B.gate) }
     ensures taken { IfOk result (λ closed. (S.tally closed.taken.source).arrivals ≡ (S.tally source).arrivals + closed.taken.came) }
     ensures ends { IfOk result (λ closed. EndedAs S.tally closed.taken.end source closed.taken.source) }
@@ -278,7 +276,6 @@ fn run_bound<
     Q: Poller<T> + Drop + Send,
     W: Wake + Drop + Send + Sync,
     X: Crossing + Sync,
-    C: Clock + Drop + Send,
     I: Send,
     D: Watch<I> + Send,
     R: Threads + Wait + SystemClock + Sync,
@@ -288,7 +285,7 @@ fn run_bound<
     shared_broker: &SharedBroker<'_, B, N>,
     shares: &[Share],
     handles: Vec<WorkerHandle<B, N>>,
-    setup: PoolSetup<'_, T, Q, W, X, C>,
+    setup: PoolSetup<'_, T, Q, W, X>,
     source: S,
     accepting: Closer<'_, B>,
     watch: &mut D,
@@ -297,13 +294,13 @@ fn run_bound<
 where
     B::Seen: Send + Sync,
     requires workers { (1 ≤ length handles.items) × (length handles.items ≤ 64) }
-    requires setup { length setup.worker_io.items ≡ length handles.items }
+    requires setup { length setup.unused_pollers.items ≡ length handles.items }
     requires unused { All (λ handle. IsUnused handle.ports handle.desk) handles.items }
     ensures handles { MatchResult result (λ ran. length ran.pooled.handles.items ≡ length handles.items) (λ back. length back.items ≡ length handles.items) }
     ensures taken { IfOk result (λ ran. (S.tally ran.pooled.taken.source).arrivals ≡ (S.tally source).arrivals + ran.pooled.taken.came) }
     ensures ends { IfOk result (λ ran. EndedAs S.tally ran.pooled.taken.end source ran.pooled.taken.source) }
     ensures served { IfOk result (λ ran. (came : List T) × (routes : List ShareState) × (ran.shares.items ≡ take most_routes routes) × Gave S.arrived source came ran.pooled.taken.source × (ran.pooled.taken.came ≡ length came)
-        × AreServed B.group B.Seen.Witness T.counts T.given T.accepted (arrivals setup.entry.max_inflight came) routes (map (λ handle. handle.ports) ran.pooled.handles.items) (map (λ handle. handle.desk) ran.pooled.handles.items) ran.pooled.served.items (map Q.closed ran.pooled.pollers.items)) }
+        × AreServed B.group B.Seen.Witness T.counts T.given T.accepted (arrivals setup.entry.max_inflight came) routes (map (λ handle. handle.ports) ran.pooled.handles.items) (map (λ handle. handle.desk) ran.pooled.handles.items) ran.pooled.served.items (map Q.polled ran.pooled.pollers.items)) }
     ensures watched { IfOk result (λ _. D.has_watched watch.old watch.new input.old input.new) }
     ensures shares { IfOk result (λ ran. All (IsBoundIn ran.shares.items) shares.now) }
 {

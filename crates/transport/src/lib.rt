@@ -16,6 +16,6 @@ pub use answers::{Arrival, Got, Put};
 pub use counts::{Counts, Tally};
 pub use scripted::Scripted;
 pub use scripted_source::ScriptedSource;
-pub use stand_ins::{OpenCrossing, SetClock};
-pub use traits::{Clock, Crossing, Source, Transport};
+pub use stand_ins::OpenCrossing;
+pub use traits::{Crossing, Source, Transport};
 pub use turns::{ReadTurn, WriteTurn};

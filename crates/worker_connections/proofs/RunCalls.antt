@@ -7,6 +7,8 @@ use Rattle.broker_groups.specs.Answers.{Sights}
 use Rattle.conn_supply.specs.SupplyCalls.{SupplyCall}
 use Rattle.conn_supply.specs.SupplyCalls.SupplyCall.{Kicked}
 use Rattle.conn_engine.specs.declared.input.Input.TheVariants as inputs
+use Rattle.conn_engine.specs.Step.{Steps as ConnSteps}
+use Rattle.conn_laws.proofs.Ended.{silent}
 use Rattle.conn_laws.proofs.Failing.{failed}
 use Rattle.conn_laws.proofs.Stepping.{stepped}
 use Rattle.client_table.specs.Clients.{IsGivenUp, moment_of}
@@ -27,8 +29,11 @@ module _ {T : Type 0} (group : ℕ → GroupId) (seen : Sights) (counts : T → 
   the_last : (at : ℕ) (old new : ServiceState PlaceState T) (supply supply' : Worker) → IsGivenUp (Calls group seen) slot_of supply old.client at inputs.EndOfInput new.client supply'
       → (calls : List (SupplyCall PlaceState)) × AreOfTheLast group seen old supply calls new supply'
   the_last at old new supply supply' (inl moved) =
-      let step = stepped (Calls group seen) slot_of supply supply' old.client.conn.number (moment_of old.client at) old.client.conn.phase new.client.conn.phase inputs.EndOfInput moved.0.packets moved.0.next moved.1.stepped in
-      (step.supply_calls, inl (moved.0.packets, moved.0.next, (step, refl)))
+      let now = moment_of old.client at in
+      let none = silent (Calls group seen) slot_of supply supply' old.client.conn.number now old.client.conn.phase new.client.conn.phase moved.0.packets moved.0.next moved.1.stepped in
+      let steps = subst (λ packets. ConnSteps (Calls group seen) slot_of supply old.client.conn.number old.client.conn.phase now inputs.EndOfInput packets moved.0.next new.client.conn.phase supply') none moved.1.stepped in
+      let step = stepped (Calls group seen) slot_of supply supply' old.client.conn.number now old.client.conn.phase new.client.conn.phase inputs.EndOfInput [] moved.0.next steps in
+      (step.supply_calls, inl (moved.0.next, (step, refl)))
   the_last at old new supply supply' (inr fails) =
       let step = failed (Calls group seen) slot_of supply supply' old.client.conn.number (moment_of old.client at) old.client.conn.phase inputs.EndOfInput fails.failed in
       (step.supply_calls, inr (step, refl, fails.over))

@@ -19,7 +19,7 @@ use Rattle.shared_supply.specs.Waking.{KeepsAtMost, no_wakes, one_called}
 use Rattle.shared_supply.specs.Workers.{Worker, Begins, Leaves, is_visiting}
 use Rattle.worker_connections.specs.declared.served.ServedCounts.{ServedCounts}
 use Rattle.worker_connections.specs.Arrivals.{ArrivedState, IsWatched, opening_at}
-use Rattle.worker_connections.specs.Closing.{HasClosedNone, and_closed, closed_if}
+use Rattle.worker_connections.specs.Polling.{PollerCall, Close, Wait, HasNoCalls, and_called, closed_if}
 use Rattle.worker_connections.specs.Counting.{counted, counted_if, none_served}
 use Rattle.worker_connections.specs.Sweeping.{AreTicked, sweep_period}
 
@@ -41,19 +41,19 @@ pub data Deed (T : Type 0) : Type 0 where
   Notified : (most others : List ℕ) → Deed T
   -- it told others all that they wait for
   NotifiedAll : Deed T
-  -- it waited for so many milliseconds at most, and then looked at its clock, which told this moment
+  -- it waited at its poller for so many milliseconds at most, which then told this moment
   Waited : (at_most now : ℕ) → Deed T
 
 -- what a worker has: the number of the connection in its first cell, from which on those in the others have theirs; what it asks, its connections, those that came, in order, how
--- connections ended, and which transports it closed, each as it was then, in order; `None` where its poller does not tell that. Its moment is that of its latest look at its clock,
--- or of an earlier one where the clock was set back
+-- connections ended, and the calls of its poller by which it closed transports and waited, in order; `None` where its poller does not tell them. Its moment is the one that its
+-- latest wait told, or that of an earlier one where the clock was set back
 pub record RunState (T : Type 0) : Type 0 where
   pub first : ℕ
   pub supply : Worker
   pub cells : List (Option (ServiceState PlaceState T))
   pub received : List (ArrivedState T)
   pub served : ServedCounts
-  pub closed : Option (List T)
+  pub polled : Option (List (PollerCall T))
   pub latest : ℕ
 
 -- the run of a worker: from its first state to its last one
@@ -62,14 +62,14 @@ pub record Run (T : Type 0) : Type 0 where
   pub deeds : List (Deed T)
   pub last : RunState T
 
--- nothing came yet, it did not look at its clock, nothing was published, and the desk was not called: so what its ports have in the end was published in the run, and the calls that are its own were made in it
+-- nothing came yet, it did not wait yet, nothing was published, and the desk was not called: so what its ports have in the end was published in the run, and the calls that are its own were made in it
 pub record IsFirst {T : Type 0} (state : RunState T) : Type 0 where
   pub count : ℕ
   pub free : state.cells ≡ replicate count None
   pub none_came : state.received ≡ []
   pub none_ended : state.served ≡ none_served
   pub none_waits : state.supply.wakes ≡ no_wakes
-  pub none_closed : HasClosedNone state.closed
+  pub none_polled : HasNoCalls state.polled
   pub none_sent : AreUnsent state.supply.ports
   pub none_called : state.supply.desk.own ≡ []
   pub not_looked : state.latest ≡ 0
@@ -92,17 +92,17 @@ module _ {T : Type 0} (group : ℕ → GroupId) (seen : Sights) (counts : T → 
       Rounds (Calls group seen) Begins Leaves is_visiting (λ (p : PlaceState). p.group) counts given accepted now service supply behind supply'
 
   -- the connection in a cell goes on by a round of these acts; where that ends it, its transport is closed as the round left it
-  pub record GoesOn (now : ℕ) (acts : List Act) (how : Option Served) (before : Option (ServiceState PlaceState T)) (supply : Worker) (closed : Option (List T))
-      (after : Option (ServiceState PlaceState T)) (supply' : Worker) (closed' : Option (List T)) : Type 0 where
+  pub record GoesOn (now : ℕ) (acts : List Act) (how : Option Served) (before : Option (ServiceState PlaceState T)) (supply : Worker) (polled : Option (List (PollerCall T)))
+      (after : Option (ServiceState PlaceState T)) (supply' : Worker) (polled' : Option (List (PollerCall T))) : Type 0 where
     pub service : ServiceState PlaceState T
     pub here : before ≡ Some service
     pub behind : ServiceState PlaceState T
     pub round : RoundsOf now service supply behind supply'
     pub acts_are : acts ≡ round.led.acts
     pub leaves : LeavesCell how behind after
-    pub closes : closed' ≡ closed_if how behind.transport closed
+    pub closes : polled' ≡ closed_if how behind.transport polled
 
-  -- what a deed makes of the worker. What it does at a moment it does at its own one, and that changes only where it waited and looked at its clock. **It waits only where it owes
+  -- what a deed makes of the worker. What it does at a moment it does at its own one, and that changes only where it waited. **It waits only where it owes
   -- nothing**, and no longer than 50 milliseconds
   abbrev pub Makes : Deed T → RunState T → RunState T → Type 0
   Makes (Opened arrived cell now) old new =
@@ -110,18 +110,18 @@ module _ {T : Type 0} (group : ℕ → GroupId) (seen : Sights) (counts : T → 
       × (new ≡ record old { cells = new.cells; received = old.received ++ arrived ∷ [] }) × (now ≡ old.latest)
   Makes (Closed arrived) old new =
       (watched : T) × IsWatched counts given accepted arrived.transport watched
-      × (new ≡ record old { received = old.received ++ arrived ∷ []; served = counted Memory old.served; closed = and_closed watched old.closed })
+      × (new ≡ record old { received = old.received ++ arrived ∷ []; served = counted Memory old.served; polled = and_called (Close watched) old.polled })
   Makes (Allowed most) old new = new ≡ record old { supply = record old.supply { allowance = most } }
   Makes (MadeRound cell now acts how) old new =
-      InCell old.cells cell (λ before after. GoesOn now acts how before old.supply old.closed after new.supply new.closed) new.cells
-      × (new ≡ record old { supply = new.supply; cells = new.cells; served = counted_if how old.served; closed = new.closed }) × (now ≡ old.latest)
+      InCell old.cells cell (λ before after. GoesOn now acts how before old.supply old.polled after new.supply new.polled) new.cells
+      × (new ≡ record old { supply = new.supply; cells = new.cells; served = counted_if how old.served; polled = new.polled }) × (now ≡ old.latest)
   Makes (Passed cell) old new =
       InCell old.cells cell (λ before after. (before ≡ None) × (after ≡ None)) new.cells × (new ≡ record old { cells = new.cells })
   Makes (Called slot) old new = new ≡ record old { supply = record old.supply { wakes = one_called slot old.supply.wakes } }
   Makes (Notified most others) old new =
       KeepsAtMost most others old.supply.wakes new.supply.wakes × (new ≡ record old { supply = record old.supply { wakes = new.supply.wakes } })
   Makes NotifiedAll old new = new ≡ record old { supply = record old.supply { wakes = no_wakes } }
-  Makes (Waited at_most now) old new = OwesNothing old × (at_most ≤ sweep_period) × (new ≡ record old { latest = max old.latest now })
+  Makes (Waited at_most now) old new = OwesNothing old × (at_most ≤ sweep_period) × (new ≡ record old { polled = and_called (Wait at_most now) old.polled; latest = max old.latest now })
 
   -- these deeds, one after the other
   abbrev pub MakesAll : List (Deed T) → RunState T → RunState T → Type 0

@@ -22,8 +22,8 @@ use Rattle.worker_connections.specs.Cells.{InCell}
 use Rattle.worker_connections.specs.Chains.{Deed, MadeRound, LeavesCell, Makes, Run, RunState}
 
 module _ {T : Type 0} (group : ℕ → GroupId) (seen : Sights) where
-  -- the calls of a step of the connection, by which these packets are sent: a message that they hand out goes out at once, a message that they settle is the one that the
-  -- PUBACK came for, and no place is lost
+  -- the calls of a step of the connection, by which these packets are sent: each message that they hand out is in one of these packets, a message that they settle is the one
+  -- that the PUBACK came for, and the places are kept
   abbrev pub AreOfStep : Input → List Packet → Then → ServiceState PlaceState T → Worker → List (SupplyCall PlaceState) → ServiceState PlaceState T → Worker → Type 0
   AreOfStep input sent next old supply calls new supply' =
       (step : StepCalls (Calls group seen) supply old.client.conn.number old.client.conn.phase input sent next new.client.conn.phase supply') × (calls ≡ step.supply_calls)
@@ -33,10 +33,10 @@ module _ {T : Type 0} (group : ℕ → GroupId) (seen : Sights) where
   AreOfFailure input old supply calls new supply' =
       (step : FailedCalls (Calls group seen) supply old.client.conn.number old.client.conn.phase input supply') × (calls ≡ step.supply_calls) × (new.client.conn.phase ≡ Ended)
 
-  -- those of the last step of a connection that is given up, of which nothing is written
+  -- those of the last step of a connection that is given up, which sends nothing and so hands nothing out
   abbrev pub AreOfTheLast : ServiceState PlaceState T → Worker → List (SupplyCall PlaceState) → ServiceState PlaceState T → Worker → Type 0
   AreOfTheLast old supply calls new supply' =
-      ((sent : List Packet) × (next : Then) × AreOfStep inputs.EndOfInput sent next old supply calls new supply') ⊎ AreOfFailure inputs.EndOfInput old supply calls new supply'
+      ((next : Then) × AreOfStep inputs.EndOfInput [] next old supply calls new supply') ⊎ AreOfFailure inputs.EndOfInput old supply calls new supply'
 
   -- the calls of an act; what others do to the supply is none of a round
   abbrev pub AreOfAct : Act → ServiceState PlaceState T → Worker → List (SupplyCall PlaceState) → ServiceState PlaceState T → Worker → Type 0

@@ -23,12 +23,12 @@ use Rattle.worker_connections.specs.declared.served.ServedCounts.{ServedCounts}
 use Rattle.worker_connections.specs.declared.sweeps.Sweeps.{Sweeps}
 use Rattle.worker_connections.specs.Arrivals.{ArrivedState, IsWatched, opening_at}
 use Rattle.worker_connections.specs.Chains.{RunState}
-use Rattle.worker_connections.specs.Closing.{and_closed}
+use Rattle.worker_connections.specs.Polling.{PollerCall, Close, and_called}
 use Rattle.worker_connections.specs.Counting.{counted, counts_of, none_served}
 use Rattle.worker_connections.specs.Sweeping.{KeepsMoment}
 
 -- the number of the connection in the first cell, from which on those in the others have theirs; the end of the channel, the cells with the connections that are open, the counts of
--- those that have ended, when those that are open went on, what they ask of the broker, and the transports that were closed, each as it was then, where that is known
+-- those that have ended, when those that are open went on, what they ask of the broker, and the calls of the poller, where they are known
 pub record ConnectionsState (T : Type 0) : Type 0 where
   pub first : ℕ
   pub receiver : ReceiverState (ArrivedState T)
@@ -36,7 +36,7 @@ pub record ConnectionsState (T : Type 0) : Type 0 where
   pub served : ServedCounts
   pub sweeps : Sweeps
   pub supply : Worker
-  pub closed : Option (List T)
+  pub polled : Option (List (PollerCall T))
 
 -- how many connections are open
 abbrev pub live : {T : Type 0} → ConnectionsState T → ℕ
@@ -59,7 +59,7 @@ run_of connections =
       cells = connections.cells;
       received = connections.receiver.received;
       served = connections.served;
-      closed = connections.closed;
+      polled = connections.polled;
       latest = connections.sweeps.latest;
     }
 
@@ -106,19 +106,19 @@ pub record IsDone {T : Type 0} (connections : ConnectionsState T) : Type 0 where
   pub none_live : live connections ≡ 0
 
 -- a connection that came is opened in a cell at this moment, with the number of that cell, over its transport as it is watched; or in none, and its transport is closed as it came
-abbrev pub Admits : {T : Type 0} → (T → Counts) → (T → Option (List ℕ)) → (T → Option (List ℕ)) → (first now : ℕ) → ArrivedState T → List (Option (ServiceState PlaceState T)) → Option (List T)
-    → Option ℕ → List (Option (ServiceState PlaceState T)) → Option (List T) → Type 0
-Admits {T} counts given accepted first now arrived old closed None new closed' =
-    (new ≡ old) × ((watched : T) × IsWatched counts given accepted arrived.transport watched × (closed' ≡ and_closed watched closed))
-Admits {T} counts given accepted first now arrived old closed (Some cell) new closed' =
-    (watched : T) × IsWatched counts given accepted arrived.transport watched × InCell old cell (Opens (first + cell) (opening_at now arrived) watched) new × (occupied new ≡ occupied old + 1) × (closed' ≡ closed)
+abbrev pub Admits : {T : Type 0} → (T → Counts) → (T → Option (List ℕ)) → (T → Option (List ℕ)) → (first now : ℕ) → ArrivedState T → List (Option (ServiceState PlaceState T)) → Option (List (PollerCall T))
+    → Option ℕ → List (Option (ServiceState PlaceState T)) → Option (List (PollerCall T)) → Type 0
+Admits {T} counts given accepted first now arrived old polled None new polled' =
+    (new ≡ old) × ((watched : T) × IsWatched counts given accepted arrived.transport watched × (polled' ≡ and_called (Close watched) polled))
+Admits {T} counts given accepted first now arrived old polled (Some cell) new polled' =
+    (watched : T) × IsWatched counts given accepted arrived.transport watched × InCell old cell (Opens (first + cell) (opening_at now arrived) watched) new × (occupied new ≡ occupied old + 1) × (polled' ≡ polled)
 
 -- it is open then, or has ended and is counted as one for which an allocation failed
 abbrev pub TakesIn : {T : Type 0} → (T → Counts) → (T → Option (List ℕ)) → (T → Option (List ℕ)) → (first now : ℕ) → ArrivedState T → List (Option (ServiceState PlaceState T)) → ServedCounts
-    → Option (List T) → List (Option (ServiceState PlaceState T)) → ServedCounts → Option (List T) → Type 0
-TakesIn counts given accepted first now arrived old served closed new served' closed' =
-    ((cell : ℕ) × Admits counts given accepted first now arrived old closed (Some cell) new closed' × (served' ≡ served))
-    ⊎ (Admits counts given accepted first now arrived old closed None new closed' × (served' ≡ counted Memory served))
+    → Option (List (PollerCall T)) → List (Option (ServiceState PlaceState T)) → ServedCounts → Option (List (PollerCall T)) → Type 0
+TakesIn counts given accepted first now arrived old served polled new served' polled' =
+    ((cell : ℕ) × Admits counts given accepted first now arrived old polled (Some cell) new polled' × (served' ≡ served))
+    ⊎ (Admits counts given accepted first now arrived old polled None new polled' × (served' ≡ counted Memory served))
 
 -- what a connection waits for after a round; none where there is none, or it has ended
 abbrev pub round_of : {T : Type 0} → CellOutcome T → Option Round

@@ -1,6 +1,6 @@
 //! A connection that came is opened in a cell, and one that has ended is closed.
 ghost use Rattle.std.specs.Prelude.{◌≡◌, length};
-ghost use Rattle.worker_connections.specs.Closing.{closed_after};
+ghost use Rattle.worker_connections.specs.Polling.{closed_after};
 ghost use Rattle.worker_connections.specs.Serving.{Admits, TakesIn, Tells};
 
 use crate::admission::Admission;
@@ -23,7 +23,7 @@ pub(crate) fn take_in<B: Broker, T: Transport, Q: Poller<T>>(
     first: u16,
     now: u64,
 ) -> Admission
-    ensures taken { TakesIn T.counts T.given T.accepted first now arrived table.old served.old (Q.closed poller.old) table.new served.new (Q.closed poller.new) }
+    ensures taken { TakesIn T.counts T.given T.accepted first now arrived table.old served.old (Q.polled poller.old) table.new served.new (Q.polled poller.new) }
     ensures len { length table.new ≡ length table.old }
 {
     match admit(table, poller, arrived, first, now) {
@@ -44,7 +44,7 @@ fn admit<B: Broker, T: Transport, Q: Poller<T>>(
     first: u16,
     now: u64,
 ) -> Option<usize>
-    ensures admits { Admits T.counts T.given T.accepted first now arrived table.old (Q.closed poller.old) result table.new (Q.closed poller.new) }
+    ensures admits { Admits T.counts T.given T.accepted first now arrived table.old (Q.polled poller.old) result table.new (Q.polled poller.new) }
     ensures len { length table.new ≡ length table.old }
 {
     let (mut transport, max_inflight) = arrived.into_parts();
@@ -77,7 +77,7 @@ pub(crate) fn settle<T: Transport, Q: Poller<T>>(
     cell_outcome: CellOutcome<T>,
 ) -> RoundOutcome
     ensures told { Tells cell_outcome result }
-    ensures closed { Q.closed poller.new ≡ closed_after cell_outcome (Q.closed poller.old) }
+    ensures polled { Q.polled poller.new ≡ closed_after cell_outcome (Q.polled poller.old) }
 {
     match cell_outcome {
         CellOutcome::Vacant => RoundOutcome::Nowhere,

@@ -7,7 +7,7 @@ ghost use Rattle.shared_supply.specs.Calls.{Calls};
 ghost use Rattle.shared_supply.specs.Waking.{KeepsAtMost, no_wakes};
 ghost use Rattle.shared_supply.specs.Workers.{Begins as BeginsVisit, Leaves as LeavesVisit, is_visiting};
 ghost use Rattle.worker_connections.specs.Chains.{HasRunTo, OwesNothing};
-ghost use Rattle.worker_connections.specs.Closing.{HasClosedNone};
+ghost use Rattle.worker_connections.specs.Polling.{Wait as Waits, HasNoCalls, and_called};
 ghost use Rattle.worker_connections.specs.Handles.{IsUnused};
 ghost use Rattle.worker_connections.specs.Serving.{AreCounted, AreFresh, GoesBy, IsDone, Rounds, StaysOf, Tells, live, run_of, wakes_of, with_wakes};
 ghost use Rattle.worker_connections.specs.Members.{HasTaker, TakesIn as WouldTake, one_called_if};
@@ -32,13 +32,13 @@ use conn_service::Direction;
 use shared_supply::{GroupTally, SharedSupply, SupplyParts, Wakes};
 use std::marker::Model;
 use std::sync::Wait;
-use transport::{Clock, Crossing, Transport};
+use transport::{Crossing, Transport};
 use worker_bells::{Members, SLOTS};
 
 /// The connections that a worker received, each in a cell of its table as long as it is open, what they ask of the broker, and where the worker waits for them.
 ///
 /// Contracts see it as a `ConnectionsState`: what was received of the channel, which connections are open and when they went on, how many have ended in
-/// which way, what they ask, and which transports were closed. All that came of it is one run, from a supply through which nothing was published: each deed of it began at the state that the one
+/// which way, what they ask, and the calls of the poller. All that came of it is one run, from a supply through which nothing was published: each deed of it began at the state that the one
 /// before it left, and is of one of these connections.
 pub struct Connections<
     'a,
@@ -70,11 +70,11 @@ impl<'a, 'g, B: Broker, N: HistoryName, T: Transport + Drop, Q: Poller<T>, R: Wa
 
     ghost Value = { ConnectionsState T };
 
-    ghost view = { λ c. record { first = c.first; receiver = c.receiver; cells = c.table; served = c.served; sweeps = c.sweeps; supply = c.supply; closed = Q.closed c.poller } };
+    ghost view = { λ c. record { first = c.first; receiver = c.receiver; cells = c.table; served = c.served; sweeps = c.sweeps; supply = c.supply; polled = Q.polled c.poller } };
 
     ghost invariant = { λ c. IsAccounted (length c.receiver.received) c.table c.served × AreSwept c.sweeps c.table
         × (length c.members ≡ length c.table) × AreWished c.table c.members
-        × HasRunTo B.group (record { saw_ledger = B.Seen.saw_ledger; saw_main = B.Seen.saw_main; saw_returns = B.Seen.saw_returns }) T.counts T.given T.accepted (record { first = c.first; supply = c.supply; cells = c.table; received = c.receiver.received; served = c.served; closed = Q.closed c.poller; latest = c.sweeps.latest }) };
+        × HasRunTo B.group (record { saw_ledger = B.Seen.saw_ledger; saw_main = B.Seen.saw_main; saw_returns = B.Seen.saw_returns }) T.counts T.given T.accepted (record { first = c.first; supply = c.supply; cells = c.table; received = c.receiver.received; served = c.served; polled = Q.polled c.poller; latest = c.sweeps.latest }) };
 }
 
 impl<'a, 'g, B: Broker, N: HistoryName, T: Transport + Drop, Q: Poller<T>, R: Wait> Connections<
@@ -87,7 +87,7 @@ impl<'a, 'g, B: Broker, N: HistoryName, T: Transport + Drop, Q: Poller<T>, R: Wa
     R,
 > {
     /// None yet, of those that this end of the channel will receive; this table is for them, with these numbers from the first cell's on, these are their wishes, this supply is what
-    /// they ask, and at this poller their worker waits for them. Nothing was published through the supply's ports, it made no call of the desk, and the poller closed no transport.
+    /// they ask, and at this poller their worker waits for them. Nothing was published through the supply's ports, it made no call of the desk, and the poller was not used yet.
     pub fn new(
         first: u16,
         receiver: Receiver<Arrived<T>>,
@@ -100,7 +100,7 @@ impl<'a, 'g, B: Broker, N: HistoryName, T: Transport + Drop, Q: Poller<T>, R: Wa
         requires table { table ≡ replicate (length members) None }
         requires supply { supply.wakes ≡ no_wakes }
         requires unused { IsUnused supply.ports supply.desk }
-        requires closed { HasClosedNone (Q.closed poller) }
+        requires polled { HasNoCalls (Q.polled poller) }
         ensures fresh { AreFresh receiver supply.entry.ports result }
         ensures numbers { (result.first ≡ first) × (length result.cells ≡ length members) }
         ensures known { result.supply.known ≡ supply.entry.known }
@@ -237,15 +237,15 @@ impl<'a, 'g, B: Broker, N: HistoryName, T: Transport + Drop, Q: Poller<T>, R: Wa
         self.supply.take_wakes()
     }
 
-    /// Waits until something may be read or written, or the worker is called, or for so many milliseconds, and then looks at the worker's clock. Whether it was called.
-    pub fn wait<C: Clock>(&mut self, rt: &R, at_most: u64, clock: &mut C) -> bool
+    /// Waits until something may be read or written, or the worker is called, or for so many milliseconds; the worker's moment is that behind it. Whether it was called.
+    pub fn wait(&mut self, rt: &R, at_most: u64) -> bool
         requires owes { OwesNothing (run_of self.old) }
         requires in_time { at_most ≤ sweep_period }
-        ensures { (now : ℕ) × (self.new ≡ record self.old { sweeps = looked now self.old.sweeps }) }
+        ensures { (now : ℕ) × (self.new ≡ record self.old { polled = and_called (Waits at_most now) self.old.polled; sweeps = looked now self.old.sweeps }) }
     {
-        let called = self.poller.wait(rt, at_most);
-        self.sweeps.look(clock.now());
-        called
+        let woken = self.poller.wait(rt, at_most);
+        self.sweeps.look(woken.now);
+        woken.called
     }
 
     /// The cell of a connection that may be read or written, by the last wait.
@@ -351,7 +351,7 @@ impl<'a, 'g, B: Broker, N: HistoryName, T: Transport + Drop, Q: Poller<T>, R: Wa
         ensures receiver { result.receiver ≡ self.entry.receiver }
         ensures served { result.served ≡ self.entry.served }
         ensures counted { live self.entry ≡ 0 → AreCounted (length self.entry.receiver.received) result.served }
-        ensures closed { Q.closed result.poller ≡ self.entry.closed }
+        ensures polled { Q.polled result.poller ≡ self.entry.polled }
         ensures ran { HasRunTo B.group B.Seen.Witness T.counts T.given T.accepted (run_of self.entry) }
         ensures ports { live self.entry ≡ 0 → result.handle.ports ≡ self.entry.supply.ports }
         ensures known { live self.entry ≡ 0 → result.known ≡ self.entry.supply.known }

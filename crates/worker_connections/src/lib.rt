@@ -24,7 +24,7 @@ pub use arrived::Arrived;
 pub use cell_outcome::{CellOutcome, RoundOutcome};
 pub use connections::Connections;
 pub use handle::WorkerHandle;
-pub use poller::Poller;
+pub use poller::{Poller, Woken};
 pub use returned::Returned;
 pub use served::ServedCounts;
 pub use sweeps::Sweeps;

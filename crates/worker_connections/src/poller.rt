@@ -1,30 +1,39 @@
 //! Where a worker waits.
 ghost use Rattle.std.specs.Prelude.{◌≡◌, List, Option};
 ghost use Rattle.worker_connections.specs.Arrivals.{IsWatched};
-ghost use Rattle.worker_connections.specs.Closing.{and_closed};
+ghost use Rattle.worker_connections.specs.Polling.{PollerCall, Close, Wait as Waits, and_called};
 
 use std::sync::Wait;
 use transport::Transport;
 
-/// Where a worker waits for its connections, and for a call of the others.
+/// How a wait ended.
+#[derive(Copy, Drop)]
+pub struct Woken {
+    /// Whether the worker was called.
+    pub called: bool,
+    /// The moment, in milliseconds.
+    pub now: u64,
+}
+
+/// Where a worker waits for its connections, and for a call of the others, and learns the moment.
 pub trait Poller<T: Transport> {
-    /// The transports that it closed, each as it was then, in order; where that is known.
-    ghost closed: { Self → Option (List T) };
+    /// The calls of it by which transports were closed, each as it was then, and by which its worker waited, in order; where they are known.
+    ghost polled: { Self → Option (List (PollerCall T)) };
 
     /// Watches a transport from now on, under the least number that is free; `None` where there is none, or the system refuses.
     fn register(&mut self, transport: &mut T) -> Option<usize>
         ensures watched { IsWatched T.counts T.given T.accepted transport.old transport.new }
-        ensures closed { closed self.new ≡ closed self.old };
+        ensures polled { polled self.new ≡ polled self.old };
 
     /// Closes a transport. The number under which it was watched, if it was, is free.
     fn close(&mut self, number: Option<usize>, transport: T)
-        ensures { closed self.new ≡ and_closed transport (closed self.old) };
+        ensures { polled self.new ≡ and_called (Close transport) (polled self.old) };
 
-    /// Waits until something may be read or written, or the worker is called, or for so many milliseconds. Whether it was called.
-    fn wait<R: Wait>(&mut self, rt: &R, at_most: u64) -> bool
-        ensures { closed self.new ≡ closed self.old };
+    /// Waits until something may be read or written, or the worker is called, or for so many milliseconds.
+    fn wait<R: Wait>(&mut self, rt: &R, at_most: u64) -> Woken
+        ensures { polled self.new ≡ and_called (Waits at_most result.now) (polled self.old) };
 
     /// The number of one that may be read or written, by the last wait.
     fn take_ready(&mut self) -> Option<usize>
-        ensures { closed self.new ≡ closed self.old };
+        ensures { polled self.new ≡ polled self.old };
 }

@@ -18,6 +18,6 @@ pub struct Returned<'a, B: Broker, N: HistoryName, T: Transport + Drop, Q> {
     pub served: ServedCounts,
     /// What they know of the routes.
     pub known: KnownRoutes<'a>,
-    /// Where their worker waited, which closed their transports.
+    /// Where their worker waited, and closed their transports.
     pub poller: Q,
 }

@@ -13,7 +13,7 @@ pub struct Sweeps {
     /// Those in the first `gone` cells went on at this moment or later.
     pub begun: u64,
     pub gone: usize,
-    /// The worker's moment: that of its latest look at its clock, or of an earlier one where the clock was set back.
+    /// The worker's moment: the one that its latest wait told, or that of an earlier one where the clock was set back.
     pub latest: u64,
 }
 

@@ -23,7 +23,7 @@ use std::alloc::Global;
 use std::rt::Clock as SystemClock;
 use std::sync::Wait;
 use std::thread::Threads;
-use transport::{Clock, Crossing, Source, Transport};
+use transport::{Crossing, Source, Transport};
 use worker_connections::{Arrived, Poller, Returned, ServedCounts, WorkerHandle};
 
 /// What a pool gives back.
@@ -63,7 +63,6 @@ pub fn run<
     Q: Poller<T> + Drop + Send,
     W: Wake + Drop + Send + Sync,
     X: Crossing + Sync,
-    C: Clock + Drop + Send,
     I: Send,
     D: Watch<I> + Send,
     R: Threads + Wait + SystemClock + Sync,
@@ -72,7 +71,7 @@ pub fn run<
     alloc: Global,
     shared_broker: &SharedBroker<'_, B, N>,
     handles: Vec<WorkerHandle<B, N>>,
-    setup: PoolSetup<'_, T, Q, W, X, C>,
+    setup: PoolSetup<'_, T, Q, W, X>,
     source: S,
     closer: Closer<'_, B>,
     watch: &mut D,
@@ -82,21 +81,21 @@ pub fn run<
 where
     B::Seen: Send + Sync,
     requires workers { (1 ≤ length handles.items) × (length handles.items ≤ 64) }
-    requires setup { length setup.worker_io.items ≡ length handles.items }
+    requires setup { length setup.unused_pollers.items ≡ length handles.items }
     requires unused { All (λ handle. IsUnused handle.ports handle.desk) handles.items }
     requires routes { routes.old.table ≡ shared_broker.now }
     ensures handles { MatchResult result (λ pooled. length pooled.handles.items ≡ length handles.items) (λ unbegun. length unbegun.handles.items ≡ length handles.items) }
     ensures taken { IfOk result (λ pooled. (S.tally pooled.taken.source).arrivals ≡ (S.tally source).arrivals + pooled.taken.came) }
     ensures ends { IfOk result (λ pooled. EndedAs S.tally pooled.taken.end source pooled.taken.source) }
     ensures served { IfOk result (λ pooled. (came : List T) × Gave S.arrived source came pooled.taken.source × (pooled.taken.came ≡ length came)
-        × AreServed B.group B.Seen.Witness T.counts T.given T.accepted (arrivals setup.entry.max_inflight came) routes.new.told (map (λ handle. handle.ports) pooled.handles.items) (map (λ handle. handle.desk) pooled.handles.items) pooled.served.items (map Q.closed pooled.pollers.items)) }
+        × AreServed B.group B.Seen.Witness T.counts T.given T.accepted (arrivals setup.entry.max_inflight came) routes.new.told (map (λ handle. handle.ports) pooled.handles.items) (map (λ handle. handle.desk) pooled.handles.items) pooled.served.items (map Q.polled pooled.pollers.items)) }
     ensures counted { IfOk result (λ pooled. pooled.taken.came < 2 ^ 64 → pooled.taken.came ≡ total_in pooled.served.items) }
     ensures watched { IfOk result (λ _. D.has_watched watch.old watch.new input.old input.new) }
     ensures untouched { IfErr result (λ unbegun. unbegun.source ≡ source) }
     ensures routes { routes.new ≡ record routes.old { told = routes.new.told } }
 {
     let PoolSetup {
-        worker_io,
+        unused_pollers,
         alarms,
         crossing,
         max_inflight,
@@ -110,7 +109,7 @@ where
             served,
             pollers,
         },
-    ) = provide(alloc, worker_io, alarms)
+    ) = provide(alloc, unused_pollers, alarms)
     else {
         return Err(Unbegun { handles, source });
     };
@@ -152,20 +151,19 @@ fn hire<
     Q: Poller<T> + Drop,
     W: Wake + Drop,
     X: Crossing,
-    C: Clock + Drop,
     R: Wait,
 >(
     rt: &'a R,
     alloc: Global,
     shared_broker: &'a SharedBroker<'g, B, N>,
     handles: Vec<WorkerHandle<B, N>>,
-    all_worker_parts: Vec<WorkerParts<T, Q, W, C>>,
+    all_worker_parts: Vec<WorkerParts<T, Q, W>>,
     mailboxes: &'a Mailboxes<W>,
     crossing: &'a X,
     sender: &Sender<Arrived<T>>,
 ) -> Result<
     (
-        Vec<Worker<'a, 'g, B, N, T, Q, W, X, C, R>>,
+        Vec<Worker<'a, 'g, B, N, T, Q, W, X, R>>,
         Vec<WorkerHandle<B, N>>,
     ),
     Vec<WorkerHandle<B, N>>,
@@ -218,9 +216,8 @@ fn release<
     Q: Poller<T> + Drop,
     W: Wake + Drop,
     X: Crossing,
-    C: Clock + Drop,
     R: Wait,
->(workers: Vec<Worker<'a, 'g, B, N, T, Q, W, X, C, R>>, handles: &mut Vec<WorkerHandle<B, N>>)
+>(workers: Vec<Worker<'a, 'g, B, N, T, Q, W, X, R>>, handles: &mut Vec<WorkerHandle<B, N>>)
     requires { length handles.old.items + length workers.items ≤ vec_capacity handles.old }
     ensures { length handles.new.items ≡ length handles.old.items + length workers.entry.items }
 {
@@ -250,12 +247,11 @@ fn retire<
     Q: Poller<T> + Drop,
     W: Wake + Drop,
     X: Crossing,
-    C: Clock + Drop,
     R: Wait,
 >(
     shared_broker: &SharedBroker<'g, B, N>,
     acceptor: Acceptor<'a, B, T, S, W>,
-    workers: Vec<Worker<'a, 'g, B, N, T, Q, W, X, C, R>>,
+    workers: Vec<Worker<'a, 'g, B, N, T, Q, W, X, R>>,
     handles: Vec<WorkerHandle<B, N>>,
     receivers: Vec<Receiver<Arrived<T>>>,
     served: Vec<ServedCounts>,
@@ -274,7 +270,7 @@ fn retire<
     ensures source { result.taken.source ≡ acceptor.entry.source }
     ensures came { result.taken.came ≡ length acceptor.entry.sender.sent }
     ensures ends { result.taken.end ≡ acceptor.entry.end }
-    ensures served { AreServed B.group B.Seen.Witness T.counts T.given T.accepted acceptor.entry.sender.sent routes.new.told (map (λ handle. handle.ports) result.handles.items) (map (λ handle. handle.desk) result.handles.items) result.served.items (map Q.closed result.pollers.items) }
+    ensures served { AreServed B.group B.Seen.Witness T.counts T.given T.accepted acceptor.entry.sender.sent routes.new.told (map (λ handle. handle.ports) result.handles.items) (map (λ handle. handle.desk) result.handles.items) result.served.items (map Q.polled result.pollers.items) }
     ensures counted { CountsAll result.taken.came result.served.items }
     ensures routes { routes.new ≡ record routes.old { told = routes.new.told } }
 {
@@ -312,11 +308,10 @@ fn gather<
     Q: Poller<T> + Drop,
     W: Wake + Drop,
     X: Crossing,
-    C: Clock + Drop,
     R: Wait,
 >(
     shared_broker: &SharedBroker<'g, B, N>,
-    workers: Vec<Worker<'a, 'g, B, N, T, Q, W, X, C, R>>,
+    workers: Vec<Worker<'a, 'g, B, N, T, Q, W, X, R>>,
     sender: &Sender<Arrived<T>>,
     handles: &mut Vec<WorkerHandle<B, N>>,
     receivers: &mut Vec<Receiver<Arrived<T>>>,
@@ -332,13 +327,13 @@ fn gather<
     requires pollers { length pollers.old.items + length workers.items ≤ vec_capacity pollers.old }
     requires of { AreOf sender.now.channel receivers.old.items }
     requires all { AreAllCounted receivers.old.items served.old.items }
-    requires ended { (share : ℕ) × AreNumbered share workers.items × HaveEnded B.group B.Seen.Witness T.counts T.given T.accepted (length workers.items * share) (map (λ handle. handle.ports) handles.old.items) (map (λ handle. handle.desk) handles.old.items) receivers.old.items served.old.items (map Q.closed pollers.old.items) routes.old.told }
+    requires ended { (share : ℕ) × AreNumbered share workers.items × HaveEnded B.group B.Seen.Witness T.counts T.given T.accepted (length workers.items * share) (map (λ handle. handle.ports) handles.old.items) (map (λ handle. handle.desk) handles.old.items) receivers.old.items served.old.items (map Q.polled pollers.old.items) routes.old.told }
     ensures handles { length handles.new.items ≡ length handles.old.items + length workers.entry.items }
     ensures receivers { length receivers.new.items ≡ length receivers.old.items + length workers.entry.items }
     ensures of { AreOf sender.now.channel receivers.new.items }
     ensures marks { end_marks_received_by receivers.new.items ≡ end_marks_received_by receivers.old.items + length workers.entry.items }
     ensures all { AreAllCounted receivers.new.items served.new.items }
-    ensures ended { HaveEnded B.group B.Seen.Witness T.counts T.given T.accepted 0 (map (λ handle. handle.ports) handles.new.items) (map (λ handle. handle.desk) handles.new.items) receivers.new.items served.new.items (map Q.closed pollers.new.items) routes.new.told }
+    ensures ended { HaveEnded B.group B.Seen.Witness T.counts T.given T.accepted 0 (map (λ handle. handle.ports) handles.new.items) (map (λ handle. handle.desk) handles.new.items) receivers.new.items served.new.items (map Q.polled pollers.new.items) routes.new.told }
     ensures routes { routes.new ≡ record routes.old { told = routes.new.told } }
 {
     let mut workers = workers;

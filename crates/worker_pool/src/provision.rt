@@ -3,7 +3,7 @@ ghost use Rattle.std.specs.Prelude.{◌≡◌, ◌≤◌, ℕ, [], length, vec_c
 ghost use Rattle.broker_worker.specs.Parts.{ArePartsOf};
 
 use bell::Wake;
-use broker_worker::{Mailboxes, WorkerIo, WorkerParts, all_worker_parts};
+use broker_worker::{Mailboxes, UnusedPoller, WorkerParts, all_worker_parts};
 use conn_channel::{Receiver, Sender};
 use conn_supply::NoMemory;
 use std::alloc::Global;
@@ -12,33 +12,33 @@ use worker_connections::{Arrived, Poller, ServedCounts};
 
 /// What all workers share, what each has of it, and the room for what they give back.
 #[derive(Drop)]
-pub(crate) struct Provision<T: Transport + Drop, Q: Poller<T>, W, C> {
+pub(crate) struct Provision<T: Transport + Drop, Q: Poller<T>, W> {
     pub(crate) mailboxes: Mailboxes<W>,
     pub(crate) sender: Sender<Arrived<T>>,
-    pub(crate) all_worker_parts: Vec<WorkerParts<T, Q, W, C>>,
+    pub(crate) all_worker_parts: Vec<WorkerParts<T, Q, W>>,
     pub(crate) receivers: Vec<Receiver<Arrived<T>>>,
     pub(crate) served: Vec<ServedCounts>,
     pub(crate) pollers: Vec<Q>,
 }
 
 /// Makes it for as many workers as there are pollers.
-pub(crate) fn provide<T: Transport + Drop, Q: Poller<T> + Drop, W: Wake + Drop, C: Drop>(
+pub(crate) fn provide<T: Transport + Drop, Q: Poller<T> + Drop, W: Wake + Drop>(
     alloc: Global,
-    worker_io: Vec<WorkerIo<T, Q, C>>,
+    unused_pollers: Vec<UnusedPoller<T, Q>>,
     alarms: Vec<W>,
-) -> Result<Provision<T, Q, W, C>, NoMemory>
-    requires { length worker_io.items ≤ 64 }
-    ensures sender { IfOk result (λ made. (made.sender.receivers ≡ length worker_io.items) × (made.sender.sent ≡ []) × (made.sender.end_marks_sent ≡ 0)) }
-    ensures count { IfOk result (λ made. length made.all_worker_parts.items ≡ length worker_io.items) }
-    ensures all_worker_parts { IfOk result (λ made. (share : ℕ) × ArePartsOf (length worker_io.items) share made.sender.channel made.all_worker_parts.items) }
-    ensures receivers { IfOk result (λ made. (made.receivers.items ≡ []) × (length worker_io.items ≤ vec_capacity made.receivers)) }
-    ensures served { IfOk result (λ made. (made.served.items ≡ []) × (length worker_io.items ≤ vec_capacity made.served)) }
-    ensures pollers { IfOk result (λ made. (made.pollers.items ≡ []) × (length worker_io.items ≤ vec_capacity made.pollers)) }
+) -> Result<Provision<T, Q, W>, NoMemory>
+    requires { length unused_pollers.items ≤ 64 }
+    ensures sender { IfOk result (λ made. (made.sender.receivers ≡ length unused_pollers.items) × (made.sender.sent ≡ []) × (made.sender.end_marks_sent ≡ 0)) }
+    ensures count { IfOk result (λ made. length made.all_worker_parts.items ≡ length unused_pollers.items) }
+    ensures all_worker_parts { IfOk result (λ made. (share : ℕ) × ArePartsOf (length unused_pollers.items) share made.sender.channel made.all_worker_parts.items) }
+    ensures receivers { IfOk result (λ made. (made.receivers.items ≡ []) × (length unused_pollers.items ≤ vec_capacity made.receivers)) }
+    ensures served { IfOk result (λ made. (made.served.items ≡ []) × (length unused_pollers.items ≤ vec_capacity made.served)) }
+    ensures pollers { IfOk result (λ made. (made.pollers.items ≡ []) × (length unused_pollers.items ≤ vec_capacity made.pollers)) }
 {
-    let count = worker_io.len();
+    let count = unused_pollers.len();
     let mailboxes = Mailboxes::open(alloc, count, alarms)?;
     let (sender, ends) = conn_channel::open(alloc, count)?;
-    let all_worker_parts = all_worker_parts(alloc, worker_io, &mailboxes, &sender, ends)?;
+    let all_worker_parts = all_worker_parts(alloc, unused_pollers, &mailboxes, &sender, ends)?;
     let receivers = Vec::with_capacity(alloc, count)?;
     let served = Vec::with_capacity(alloc, count)?;
     let pollers = Vec::with_capacity(alloc, count)?;

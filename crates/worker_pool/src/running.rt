@@ -13,7 +13,7 @@ use std::rt::Clock as SystemClock;
 use std::sync::Wait;
 use std::thread;
 use std::thread::Threads;
-use transport::{Clock, Crossing, Source, Transport};
+use transport::{Crossing, Source, Transport};
 use worker_connections::Poller;
 
 /// Who does something in a thread.
@@ -46,9 +46,8 @@ impl<
     Q: Poller<T> + Drop,
     W: Wake + Drop,
     X: Crossing,
-    C: Clock + Drop,
     R: Wait,
-> Labour<R> for Worker<'a, 'g, B, N, T, Q, W, X, C, R> {
+> Labour<R> for Worker<'a, 'g, B, N, T, Q, W, X, R> {
     ghost use Rattle.worker_pool.specs.Workers.{HasRun};
 
     ghost has_run = { λ old new. HasRun old new };
@@ -73,7 +72,6 @@ pub(crate) fn run_all<
     Q: Poller<T> + Drop + Send,
     W: Wake + Drop + Send + Sync,
     X: Crossing + Sync,
-    C: Clock + Drop + Send,
     I: Send,
     D: Watch<I> + Send,
     R: Threads + Wait + SystemClock + Sync,
@@ -82,7 +80,7 @@ pub(crate) fn run_all<
     acceptor: &mut Acceptor<'a, B, T, S, W>,
     watch: &mut D,
     input: &mut I,
-    workers: &mut Vec<Worker<'a, 'g, B, N, T, Q, W, X, C, R>>,
+    workers: &mut Vec<Worker<'a, 'g, B, N, T, Q, W, X, R>>,
 )
 where
     B::Seen: Send + Sync,

@@ -1,16 +1,16 @@
 //! How a pool serves.
 
-use broker_worker::WorkerIo;
+use broker_worker::UnusedPoller;
 use conn_rules::MaxInflight;
 use transport::Transport;
 use worker_connections::Poller;
 
-/// How a pool serves: what each of its workers has of the system, and what holds of each connection. The pollers and clocks and the alarms are in the order of workers: a
+/// How a pool serves: what each of its workers has of the system, and what holds of each connection. The pollers and the alarms are in the order of workers: a
 /// worker waits at its poller, which its alarm wakes.
 #[derive(Drop)]
-pub struct PoolSetup<'a, T: Transport, Q: Poller<T>, W, X, C> {
-    /// Where each worker waits, and its clock.
-    pub worker_io: Vec<WorkerIo<T, Q, C>>,
+pub struct PoolSetup<'a, T: Transport, Q: Poller<T>, W, X> {
+    /// Where each worker waits.
+    pub unused_pollers: Vec<UnusedPoller<T, Q>>,
     /// What wakes each worker.
     pub alarms: Vec<W>,
     /// What each turn of a connection crosses.

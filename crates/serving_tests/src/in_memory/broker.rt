@@ -5,7 +5,7 @@ ghost use Rattle.broker_groups.specs.Naming.{IsOfBroker};
 
 use crate::in_memory::connections::{AlwaysReady, Meeting, NothingToWatch, Silent};
 use broker_groups::{Broker, BrokerName, BrokerPlace, Ended, Opened, Witnessed};
-use broker_worker::WorkerIo;
+use broker_worker::UnusedPoller;
 use call_history::HistoryName;
 use conn_rules::MaxInflight;
 use gate_word::{Gate, GateSeat};
@@ -18,7 +18,7 @@ use std::rt::Clock;
 use std::sync::Wait;
 use std::thread::Threads;
 use threaded_broker::{Closers, OpenBroker, Outcome, serve};
-use transport::{Scripted, SetClock, Source};
+use transport::{Scripted, Source};
 use worker_pool::{Closer, PoolSetup};
 
 /// How many messages each group has room for.
@@ -95,17 +95,17 @@ fn told_of<B: Broker<Seen = Nobody>, N: HistoryName, S: Drop>(
 }
 
 /// Where each of so many workers waits, and its clock.
-fn worker_io_for(
+fn unused_pollers_for(
     alloc: Global,
     workers: usize,
-) -> Result<(Vec<WorkerIo<Scripted, AlwaysReady, SetClock>>, Vec<Silent>), AllocError> {
-    let mut worker_io = Vec::with_capacity(alloc, workers)?;
+) -> Result<(Vec<UnusedPoller<Scripted, AlwaysReady>>, Vec<Silent>), AllocError> {
+    let mut unused_pollers = Vec::with_capacity(alloc, workers)?;
     let mut alarms = Vec::with_capacity(alloc, workers)?;
     for _ in 0..workers {
-        worker_io.push(WorkerIo::new(AlwaysReady::new(alloc)?, SetClock { moment: 0 }))?;
+        unused_pollers.push(UnusedPoller::new(AlwaysReady::new(alloc)?))?;
         alarms.push(Silent)?;
     }
-    Ok((worker_io, alarms))
+    Ok((unused_pollers, alarms))
 }
 
 /// Serves what comes from a source with all workers of a broker, who meet before each write.
@@ -125,16 +125,16 @@ fn attend<
     requires { broker.workers ≡ workers }
 {
     let count = usize::from(workers);
-    let Ok((worker_io, alarms)) = worker_io_for(alloc, count) else {
+    let Ok((unused_pollers, alarms)) = unused_pollers_for(alloc, count) else {
         broker.abandon();
         return None;
     };
-    if worker_io.len() != count {
+    if unused_pollers.len() != count {
         broker.abandon();
         return None;
     }
     let setup = PoolSetup {
-        worker_io,
+        unused_pollers,
         alarms,
         crossing: &Meeting::new(rt, workers),
         max_inflight: MaxInflight::most(),

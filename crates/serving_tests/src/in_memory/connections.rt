@@ -9,7 +9,7 @@ use std::sync::atomic::{AtomicU64, Ordering};
 use std::thread;
 use std::time::Duration;
 use transport::{Crossing, Scripted};
-use worker_connections::Poller;
+use worker_connections::{Poller, Woken};
 use worker_pool::Watch;
 
 /// How many connections a poller watches at most.
@@ -50,7 +50,7 @@ impl AlwaysReady {
 }
 
 impl Poller<Scripted> for AlwaysReady {
-    ghost closed = { λ _. None };
+    ghost polled = { λ _. None };
 
     fn register(&mut self, transport: &mut Scripted) -> Option<usize> {
         let _ = transport;
@@ -66,12 +66,15 @@ impl Poller<Scripted> for AlwaysReady {
         }
     }
 
-    fn wait<R: Wait>(&mut self, rt: &R, at_most: u64) -> bool {
+    fn wait<R: Wait>(&mut self, rt: &R, at_most: u64) -> Woken {
         let _ = rt;
         let _ = at_most;
         self.next = 0;
         thread::yield_now();
-        true
+        Woken {
+            called: true,
+            now: 0,
+        }
     }
 
     fn take_ready(&mut self) -> Option<usize> {

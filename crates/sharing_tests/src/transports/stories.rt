@@ -8,8 +8,8 @@ use std::alloc::{AllocError, Global};
 use std::process::Abort;
 use std::test::Fail;
 use transport::{
-    Arrival, Clock, Crossing, Got, OpenCrossing, Put, ReadTurn, Scripted, ScriptedSource, SetClock,
-    Source, Transport, WriteTurn,
+    Arrival, Crossing, Got, OpenCrossing, Put, ReadTurn, Scripted, ScriptedSource, Source,
+    Transport, WriteTurn,
 };
 
 /// A scripted transport with room for 64 KiB of output.
@@ -134,14 +134,7 @@ fn passes<X: Crossing>(crossing: &X, worker: u32, turns: u32) -> bool
     false
 }
 
-/// The moment that a clock of any kind tells.
-fn moment<C: Clock>(clock: &mut C) -> u64 {
-    clock.now()
-}
-
 #[test]
 fn stand_ins(rt: HostRuntime) {
-    let mut clock = SetClock { moment: 7 };
-    assert_same(&rt, &moment(&mut clock), &7);
     assert!(rt; passes(&OpenCrossing, 1, 1));
 }

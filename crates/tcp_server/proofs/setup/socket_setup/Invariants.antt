@@ -3,4 +3,4 @@ use Rattle.std.proofs.Common.{◌≡◌, length}
 use Rattle.tcp_server.proofs.setup.socket_setup.Given as goal
 
 abbrev pub invariant-reactors : goal.invariant-reactors
-invariant-reactors g l = length l.worker_io.items ≡ l.worker
+invariant-reactors g l = length l.unused_pollers.items ≡ l.worker

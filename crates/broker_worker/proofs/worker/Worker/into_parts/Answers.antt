@@ -27,7 +27,7 @@ returns-clause-desk g c =
     let Told : WorkerState g.row.T.Denot → Type 0 = λ state. live state.connections ≡ 0 → c.into_parts.result.handle.desk ≡ state.connections.supply.desk in
     subst Told c.self.view_is c.into_parts.ensures.desk
 
-pub returns-clause-closed : goal.returns-clause-closed
-returns-clause-closed g c =
-    let Told : WorkerState g.row.T.Denot → Type 0 = λ state. g.Q.Poller.closed c.into_parts.result.poller ≡ state.connections.closed in
-    subst Told c.self.view_is c.into_parts.ensures.closed
+pub returns-clause-polled : goal.returns-clause-polled
+returns-clause-polled g c =
+    let Told : WorkerState g.row.T.Denot → Type 0 = λ state. g.Q.Poller.polled c.into_parts.result.poller ≡ state.connections.polled in
+    subst Told c.self.view_is c.into_parts.ensures.polled

@@ -1,4 +1,4 @@
--- It owed nothing, and waited; nothing was closed, and it looked at its clock.
+-- It owed nothing, and waited.
 use Rattle.std.proofs.Common.{ap, subst, sym}
 use Rattle.worker_connections.specs.Chains.{OwesNothing}
 use Rattle.worker_connections.specs.Serving.{ConnectionsState, run_of}
@@ -10,10 +10,10 @@ use Rattle.worker_connections.proofs.connections.Connections.wait.Goals as goal
 pub invariant_of-self : goal.invariant_of-self
 invariant_of-self g c = (
   c.self.invariant.0,
-  looks c.self.inside.table c.self.inside.sweeps c.look.new.self c.now.result c.self.invariant.1 c.look.ensures,
+  looks c.self.inside.table c.self.inside.sweeps c.look.new.self c.wait-woken.result.now c.self.invariant.1 c.look.ensures,
   c.self.invariant.2,
   c.self.invariant.3,
-  waits_on g.B.Broker.group (record { saw_ledger = g.B.Seen.LedgerWitness.saw_ledger; saw_main = g.B.Seen.Witness.saw_main; saw_returns = g.B.Seen.Witness.saw_returns }) g.T.Transport.counts g.T.Transport.given g.T.Transport.accepted c.self.inside.first c.self.inside.sweeps.latest c.args.at_most c.now.result c.look.new.self.latest c.self.inside.supply c.self.inside.table
-      c.self.inside.receiver.received c.self.inside.served (g.Q.Poller.closed c.self.inside.poller) (g.Q.Poller.closed c.wait-called.new.self)
-      (subst (λ (state : ConnectionsState g.row.T.Denot). OwesNothing (run_of state)) (sym c.self.view_is) c.requires.owes) c.requires.in_time c.wait-called.ensures (ap (λ (s : Sweeps). s.latest) c.look.ensures) c.self.invariant.4,
+  waits_on g.B.Broker.group (record { saw_ledger = g.B.Seen.LedgerWitness.saw_ledger; saw_main = g.B.Seen.Witness.saw_main; saw_returns = g.B.Seen.Witness.saw_returns }) g.T.Transport.counts g.T.Transport.given g.T.Transport.accepted c.self.inside.first c.self.inside.sweeps.latest c.args.at_most c.wait-woken.result.now c.look.new.self.latest c.self.inside.supply c.self.inside.table
+      c.self.inside.receiver.received c.self.inside.served (g.Q.Poller.polled c.self.inside.poller) (g.Q.Poller.polled c.wait-woken.new.self)
+      (subst (λ (state : ConnectionsState g.row.T.Denot). OwesNothing (run_of state)) (sym c.self.view_is) c.requires.owes) c.requires.in_time c.wait-woken.ensures (ap (λ (s : Sweeps). s.latest) c.look.ensures) c.self.invariant.4,
 )
