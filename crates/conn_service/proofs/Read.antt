@@ -7,7 +7,7 @@ use Rattle.mqtt_fields.specs.declared.fault.StreamFault.{StreamFault}
 use Rattle.mqtt_wire.specs.Spelling.{Spells}
 use Rattle.mqtt_wire.specs.Stream.{Unread, Begins, Takes, Stops, FaultAt}
 use Rattle.transport.specs.declared.counts.Counts.{Counts}
-use Rattle.transport.specs.Scripts.{got_count}
+use Rattle.transport.specs.Counting.{got_count}
 use Rattle.std.proofs.lemmas.List.{nil_from_length}
 use Rattle.transport.specs.declared.answers.Got.{Got}
 use Rattle.transport.specs.declared.answers.Got.TheVariants as got

@@ -2,8 +2,7 @@
 use Rattle.std.specs.Prelude.{◌≡◌, ◌≢◌, ◌⊎◌, ℕ, ◌+◌, ◌≤◌, false, List, [], ◌∷◌, ◌++◌, length, Option, Some, None}
 use Rattle.std.specs.Io.KnownBytes.{append_known}
 use Rattle.transport.specs.declared.counts.Counts.{Counts}
-use Rattle.transport.specs.Counting.{after_got, after_put}
-use Rattle.transport.specs.Scripts.{put_count, got_count}
+use Rattle.transport.specs.Counting.{after_got, after_put, got_count, put_count}
 use Rattle.transport.specs.declared.answers.Got.{Got}
 use Rattle.transport.specs.declared.answers.Put.{Put}
 use Rattle.conn_engine.specs.declared.phase.ConnPhase.TheVariants.{Ended}

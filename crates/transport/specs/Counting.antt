@@ -67,3 +67,15 @@ came_in arrival.Failed = []
 -- all that came, in its order, after this answer
 abbrev pub after_came : {T : Type 0} → Arrival T → Option (List T) → Option (List T)
 after_came answer arrived = option_map (λ those. those ++ came_in answer) arrived
+
+-- how many bytes an answer gave, or took
+abbrev pub got_count : Got → ℕ
+got_count (got.Bytes count) = count
+got_count got.Idle = 0
+got_count got.End = 0
+got_count got.Failed = 0
+
+abbrev pub put_count : Put → ℕ
+put_count (put.Wrote count) = count
+put_count put.Idle = 0
+put_count put.Failed = 0

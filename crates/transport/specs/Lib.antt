@@ -1,4 +1,2 @@
 pub mod Counting
 pub mod Streams
-pub mod Scripts
-pub mod Arrivals

@@ -1,21 +1,15 @@
 //! What moves bytes between a client and a broker, apart from what the bytes mean: the traits that a serving loop stands
-//! on, and scripted ones for tests.
+//! on.
 //!
 //! Nothing here knows of MQTT, of threads or of sockets, and no call waits.
 #![tactic(auto)]
 
 mod answers;
 mod counts;
-mod scripted;
-mod scripted_source;
-mod stand_ins;
+mod open_crossing;
 mod traits;
-mod turns;
 
 pub use answers::{Arrival, Got, Put};
 pub use counts::{Counts, Tally};
-pub use scripted::Scripted;
-pub use scripted_source::ScriptedSource;
-pub use stand_ins::OpenCrossing;
-pub use traits::{Crossing, Source, Transport};
-pub use turns::{ReadTurn, WriteTurn};
+pub use open_crossing::OpenCrossing;
+pub use traits::{Clock, Crossing, Source, Transport};

@@ -85,6 +85,12 @@ pub trait Source<T: Transport> {
         ensures { result ≡ (tally self.now).arrivals };
 }
 
+/// Tells moments, in milliseconds.
+pub trait Clock {
+    /// The moment.
+    fn now(&mut self) -> u64;
+}
+
 /// A place that workers pass before each write, for tests of what they do beside each other.
 pub trait Crossing {
     /// Holds where it refuses this worker at this turn.

@@ -6,10 +6,11 @@ use conn_rules::MaxInflight;
 use conn_service::{Served, serve};
 use local_broker::LocalSupply;
 use mqtt_topic::Routes;
+use scripted_transport::{ReadTurn, Scripted, WriteTurn};
 use std::alloc::Global;
 use std::process::Abort;
 use std::sync::Wait;
-use transport::{Clock, OpenCrossing, ReadTurn, Scripted, WriteTurn};
+use transport::{Clock, OpenCrossing};
 
 /// A CONNECT of client `w1`, a SUBSCRIBE to `$share/g/job` and a PUBLISH to `job`: 17, 20 and 11 bytes.
 pub(crate) const STREAM: &[u8] =

@@ -6,8 +6,9 @@ use crate::served::acting::{
 };
 use conn_rules::MaxInflight;
 use conn_service::{Served, serve};
+use scripted_transport::ReadTurn;
 use std::test::Fail;
-use transport::{Crossing, ReadTurn};
+use transport::Crossing;
 
 /// What follows the CONNECT, and what is written after the CONNACK: a length of four bytes that all go on is malformed, and so is one in more bytes
 /// than needed; one of more than 65,536 is too large (1.5.5, 4.13).

@@ -3,10 +3,10 @@ use crate::served::acting::{
     ANSWERS, CONNACK, CONNECT, Scenario, assert_written, broker, reports, serve_over, serves,
 };
 use conn_service::Served;
+use scripted_transport::{ReadTurn, WriteTurn};
 use std::alloc::{AllocError, Global};
 use std::process::Abort;
 use std::sync::Wait;
-use transport::{ReadTurn, WriteTurn};
 
 /// The report of `$share/g/job`, where no job came, and where one came and is given back.
 const NO_JOB: &str =

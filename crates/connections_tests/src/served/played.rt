@@ -13,10 +13,11 @@ use local_server::Setup;
 use mqtt_packet::Text;
 use mqtt_topic::{Routes, Share};
 use scenarios::{Scenario, ScenarioEvent, What, all_scenarios};
+use scripted_transport::{ReadTurn, Scripted};
 use std::alloc::Global;
 use std::marker::Model;
 use std::process::Abort;
-use transport::{OpenCrossing, ReadTurn, Scripted, Transport};
+use transport::{OpenCrossing, Transport};
 
 /// A connection that goes on.
 struct Line<P: HoldingPlace, T: Transport> {

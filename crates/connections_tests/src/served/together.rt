@@ -9,10 +9,11 @@ use crate::served::noting::Noting;
 use conn_engine::Opening;
 use conn_service::{Direction, Round, Served, Service};
 use local_broker::{LocalPlace, LocalSupply};
+use scripted_transport::{ReadTurn, Scripted, WriteTurn};
 use std::alloc::{AllocError, Global};
 use std::process::Abort;
 use std::test::Fail;
-use transport::{OpenCrossing, ReadTurn, Scripted, Transport, WriteTurn};
+use transport::{OpenCrossing, Transport};
 
 /// A connection of this number, opened at the moment 0.
 fn open<T: Transport + Drop>(

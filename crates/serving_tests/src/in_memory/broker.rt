@@ -11,6 +11,7 @@ use conn_rules::MaxInflight;
 use gate_word::{Gate, GateSeat};
 use group_jobs::Envelope;
 use group_queue::Nobody;
+use scripted_transport::Scripted;
 use shared_desk::OpenedDesk;
 use std::alloc::{AllocError, Global};
 use std::marker::Brand;
@@ -18,7 +19,7 @@ use std::rt::Clock;
 use std::sync::Wait;
 use std::thread::Threads;
 use threaded_broker::{Closers, OpenBroker, Outcome, serve};
-use transport::{Scripted, Source};
+use transport::Source;
 use worker_pool::{Closer, PoolSetup};
 
 /// How many messages each group has room for.

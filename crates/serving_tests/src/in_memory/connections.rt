@@ -2,13 +2,14 @@
 ghost use Rattle.std.specs.Prelude.{◌≡◌, None, ⊤};
 
 use bell::Wake;
+use scripted_transport::Scripted;
 use std::alloc::{AllocError, Global};
 use std::rt::Clock;
 use std::sync::Wait;
 use std::sync::atomic::{AtomicU64, Ordering};
 use std::thread;
 use std::time::Duration;
-use transport::{Crossing, Scripted};
+use transport::Crossing;
 use worker_connections::{Poller, Woken};
 use worker_pool::Watch;
 

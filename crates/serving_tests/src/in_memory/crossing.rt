@@ -3,9 +3,10 @@ ghost use Rattle.std.specs.Prelude.{◌≡◌, None, IfOk};
 ghost use Rattle.transport.specs.Counting.{no_counts};
 
 use crate::in_memory::broker::{Told, serve_all};
+use scripted_transport::Scripted;
 use std::alloc::{AllocError, Global};
 use std::test::Fail;
-use transport::{Arrival, Scripted, Source};
+use transport::{Arrival, Source};
 
 /// A connection whose client, with an identifier that ends in this digit, sends a CONNECT and then ends its stream.
 fn client(alloc: Global, digit: u8) -> Result<Scripted, AllocError>

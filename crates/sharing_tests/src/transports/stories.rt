@@ -4,13 +4,11 @@ ghost use Rattle.transport.specs.Counting.{MayCome, no_counts};
 
 use crate::asserting::{assert_items, assert_same};
 use crate::tcp::echo::write;
+use scripted_transport::{ReadTurn, Scripted, ScriptedSource, WriteTurn};
 use std::alloc::{AllocError, Global};
 use std::process::Abort;
 use std::test::Fail;
-use transport::{
-    Arrival, Crossing, Got, OpenCrossing, Put, ReadTurn, Scripted, ScriptedSource, Source,
-    Transport, WriteTurn,
-};
+use transport::{Arrival, Crossing, Got, OpenCrossing, Put, Source, Transport};
 
 /// A scripted transport with room for 64 KiB of output.
 fn scripted(

@@ -1,4 +1,4 @@
-//! What stands in for a crossing.
+//! The crossing of a broker that is not under test.
 ghost use Rattle.std.specs.Prelude.{◌≡◌, true, false};
 
 use crate::traits::Crossing;

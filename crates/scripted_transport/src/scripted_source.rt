@@ -1,14 +1,12 @@
 //! A source that plays a script.
 ghost use Rattle.std.specs.Prelude.{◌≡◌, ◌⊎◌, List, [], ◌∷◌, None};
 ghost use Rattle.transport.specs.Counting.{ComesNew, MayCome, after_arrival};
-ghost use Rattle.transport.specs.Arrivals.{ComeNew, Gives};
+ghost use Rattle.scripted_transport.specs.Arrivals.{ComeNew, Gives};
 ghost use Rattle.transport.specs.declared.answers.Arrival.{Arrival};
 
-use crate::answers::Arrival;
-use crate::counts::Tally;
-use crate::traits::{Source, Transport};
 use std::collections::VecDeque;
 use std::marker::Model;
+use transport::{Arrival, Source, Tally, Transport};
 
 /// A source that gives these, one after another, and then ends. Of each transport that it gives nothing was counted yet.
 #[derive(Drop)]
@@ -18,7 +16,7 @@ pub struct ScriptedSource<T: Transport> {
 }
 
 impl<T: Transport> Model for ScriptedSource<T> {
-    ghost use Rattle.transport.specs.Arrivals.{Arrivals, ComeNew};
+    ghost use Rattle.scripted_transport.specs.Arrivals.{Arrivals, ComeNew};
 
     ghost Value = { Arrivals T };
 

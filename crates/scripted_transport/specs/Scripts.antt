@@ -5,11 +5,11 @@ use Rattle.transport.specs.declared.answers.Got.TheVariants as got
 use Rattle.transport.specs.declared.answers.Put.{Put}
 use Rattle.transport.specs.declared.answers.Put.TheVariants as put
 use Rattle.transport.specs.declared.counts.Counts.{Counts}
-use Rattle.transport.specs.declared.turns.ReadTurn.{ReadTurn}
-use Rattle.transport.specs.declared.turns.ReadTurn.TheVariants as reading
-use Rattle.transport.specs.declared.turns.WriteTurn.{WriteTurn}
-use Rattle.transport.specs.declared.turns.WriteTurn.TheVariants as writing
-use Rattle.transport.specs.Counting.{after_got, after_put}
+use Rattle.scripted_transport.specs.declared.turns.ReadTurn.{ReadTurn}
+use Rattle.scripted_transport.specs.declared.turns.ReadTurn.TheVariants as reading
+use Rattle.scripted_transport.specs.declared.turns.WriteTurn.{WriteTurn}
+use Rattle.scripted_transport.specs.declared.turns.WriteTurn.TheVariants as writing
+use Rattle.transport.specs.Counting.{after_got, after_put, got_count, put_count}
 
 -- a script, and how far it was played
 pub record Script : Type 0 where
@@ -70,18 +70,6 @@ abbrev pub TakesWithinBoth : Put → ℕ → ℕ → Type 0
 TakesWithinBoth (put.Wrote count) size room = (0 < count) × (count ≤ size) × (count ≤ room)
 TakesWithinBoth put.Idle size room = Unit {0}
 TakesWithinBoth put.Failed size room = Unit {0}
-
--- how many bytes an answer gave, or took
-abbrev pub got_count : Got → ℕ
-got_count (got.Bytes count) = count
-got_count got.Idle = 0
-got_count got.End = 0
-got_count got.Failed = 0
-
-abbrev pub put_count : Put → ℕ
-put_count (put.Wrote count) = count
-put_count put.Idle = 0
-put_count put.Failed = 0
 
 -- the answers of a script
 abbrev pub read_answer : Script → ℕ → Got

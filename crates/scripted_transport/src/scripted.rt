@@ -1,15 +1,13 @@
 //! A transport that plays a script, for tests of what a connection may meet.
 ghost use Rattle.std.specs.Prelude.{◌≡◌, ◌<◌, ◌≤◌, ◌-◌, ℕ, Option, Some, length, take, drop, IfOk};
-ghost use Rattle.transport.specs.Counting.{MayGoOn, after_got, after_put};
-ghost use Rattle.transport.specs.Scripts.{Script, got_count, new_script, played_read, played_write, read_answer, write_answer};
+ghost use Rattle.transport.specs.Counting.{MayGoOn, after_got, after_put, got_count};
+ghost use Rattle.scripted_transport.specs.Scripts.{Script, new_script, played_read, played_write, read_answer, write_answer};
 ghost use Rattle.transport.specs.Streams.{GivesWithin, TakesWithin, after_read, after_write};
 
-use crate::answers::{Got, Put};
-use crate::counts::Counts;
-use crate::traits::Transport;
 use crate::turns::{ReadTurn, WriteTurn, next_turn, read_at, write_at};
 use std::alloc::{AllocError, Global};
 use std::marker::Model;
+use transport::{Counts, Got, Put, Transport};
 
 /// A transport whose peer sends these bytes, and whose calls answer as a script says, turn by turn. After its last turn a
 /// read gives what is left and then the end, and a write takes what there is memory for and then fails.
@@ -28,7 +26,7 @@ pub struct Scripted {
 
 impl Model for Scripted {
     ghost use Rattle.std.specs.Prelude.{◌+◌, ◌≤◌, length, vec_capacity};
-    ghost use Rattle.transport.specs.Scripts.{Script};
+    ghost use Rattle.scripted_transport.specs.Scripts.{Script};
 
     ghost Value = { Script };
 

@@ -1,8 +1,8 @@
 //! The turns of a script.
 ghost use Rattle.std.specs.Prelude.{◌≡◌, ◌≢◌, ◌≤◌, ◌<◌, None, length, slice_get, nat_eq, if◌then◌else◌};
-ghost use Rattle.transport.specs.Scripts.{IsWithinBoth, TakesWithinBoth, got_at, next_place, put_at};
+ghost use Rattle.scripted_transport.specs.Scripts.{IsWithinBoth, TakesWithinBoth, got_at, next_place, put_at};
 
-use crate::answers::{Got, Put};
+use transport::{Got, Put};
 
 /// What a read of a scripted transport does at its turn.
 #[derive(Clone, Copy, Debug, PartialEq, Eq)]

@@ -1,6 +1,6 @@
 use Rattle.std.proofs.Common.{◌++◌, take, drop, Some, ap, ◌∙◌, arith}
-use Rattle.transport.proofs.Copied.{copied}
-use Rattle.transport.proofs.scripted.ScriptedTransport.read.Goals as goal
+use Rattle.scripted_transport.proofs.Copied.{copied}
+use Rattle.scripted_transport.proofs.scripted.ScriptedTransport.read.Goals as goal
 
 pub returns-in-Bytes-clause-given : goal.returns-in-Bytes-clause-given
 returns-in-Bytes-clause-given c =
