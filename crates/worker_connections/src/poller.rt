@@ -7,7 +7,7 @@ use std::sync::Wait;
 use transport::Transport;
 
 /// How a wait ended.
-#[derive(Copy, Drop)]
+#[derive(Clone, Copy, Debug, PartialEq, Eq)]
 pub struct Woken {
     /// Whether the worker was called.
     pub called: bool,
