@@ -28,8 +28,8 @@ use Rattle.threaded_broker.specs.Places.{CameOfCalls}
 use Rattle.final_report.specs.Brokers.{KeptItsPromisesBehind}
 
 module _ {T : Type 0} (group : ℕ → GroupId) (seen : Sights) (counts : T → Counts) (given accepted : T → Option (List ℕ)) where
-  -- the run of a broker until it was closed: these connections came to its workers, these ports and counts the workers gave back, and these transports they closed, each as it
-  -- was then. The first caller of its desk, which had put new places of the groups into it and did nothing else (`opened`), took in the workers' callers, and has the whole right to call then. At no moment of the run did a connection have more
+  -- the run of a broker until it was closed: these connections came to its workers, these ports and counts the workers gave back, and these calls they made of their pollers, by
+  -- which they closed transports, each as it was then, and waited. The first caller of its desk, which had put new places of the groups into it and did nothing else (`opened`), took in the workers' callers, and has the whole right to call then. At no moment of the run did a connection have more
   -- unacknowledged PUBLISH packets than its Receive Maximum, and than this limit (4.9); all that the ports accepted came of the PUBLISH packets that these connections
   -- stepped, each offered to the groups that match and answered as these took it (3.3.4); each asked the desk under the number of its cell; and at each act what is handed out is what is sent, and what is settled is what a
   -- PUBACK came for (4.4). The groups that match are those of these shares, slot by slot, as far as each worker knew them
