@@ -61,7 +61,7 @@ module _ {S P : Type 0} (call : S → SupplyCall P → S → Type 0) where
   becomes {given} {before} {after} {after'} {old} {new} same calls = subst (λ places. Aside given before places old new) (sym same) calls
 
   -- there are other places, to which nothing happens
-  pub beside : {given : List (P × Held)} {before after : List P} {old new : S} (others : List P) → Aside given before after old new → Aside given (before ++ others) (after ++ others) old new
+  abbrev pub beside : {given : List (P × Held)} {before after : List P} {old new : S} (others : List P) → Aside given before after old new → Aside given (before ++ others) (after ++ others) old new
   beside {given} {before} {after} others calls =
       record {
         supply_calls = calls.supply_calls;
@@ -79,7 +79,7 @@ module _ {S P : Type 0} (call : S → SupplyCall P → S → Type 0) where
       becomes same_places (record { supply_calls = []; made = same; aside = tt; match = refl; offers = refl; settles = refl; hands = refl; places = kept_by_none before })
 
   -- one call, by which this is handed out, if anything is
-  pub hand : (hand_out : Option (P × Held)) (old new : S) (supply_call : SupplyCall P) → call old supply_call new → IsAside supply_call → match_of supply_call ≡ None → offer_of supply_call ≡ None → settlement_of supply_call ≡ None
+  abbrev pub hand : (hand_out : Option (P × Held)) (old new : S) (supply_call : SupplyCall P) → call old supply_call new → IsAside supply_call → match_of supply_call ≡ None → offer_of supply_call ≡ None → settlement_of supply_call ≡ None
       → hand_out_of supply_call ≡ hand_out → Aside (filter_map (λ (o : Option (P × Held)). o) (hand_out ∷ [])) (places_taken supply_call) (places_brought supply_call) old new
   hand hand_out old new supply_call called is_aside no_match no_offer no_settlement hands =
       record {
@@ -97,7 +97,7 @@ module _ {S P : Type 0} (call : S → SupplyCall P → S → Type 0) where
       → Aside [] (places_taken supply_call) (places_brought supply_call) old new
   one old new supply_call called is_aside no_match no_offer no_settlement no_hand_out = hand None old new supply_call called is_aside no_match no_offer no_settlement no_hand_out
 
-  pub after : {before between behind : List P} (given more : List (P × Held)) (old mid new : S) → Aside given before between old mid → Aside more between behind mid new → Aside (given ++ more) before behind old new
+  abbrev pub after : {before between behind : List P} (given more : List (P × Held)) (old mid new : S) → Aside given before between old mid → Aside more between behind mid new → Aside (given ++ more) before behind old new
   after {before} {between} {behind} given more old mid new these those =
       record {
         supply_calls = these.supply_calls ++ those.supply_calls;

@@ -69,7 +69,7 @@ module _ {S P : Type 0} (call : S → SupplyCall P → S → Type 0) where
       becomes same_places (record { supply_calls = []; made = same; match = refl; offers = refl; settles = refl; hands = refl; places = kept_by_none before })
 
   -- among them those by which no session is asked for or handed in
-  pub plain : {before after : List P} (given : List (P × Held)) (old new : S) → Aside call given before after old new → Plain (messages_of given) before after old new
+  abbrev pub plain : {before after : List P} (given : List (P × Held)) (old new : S) → Aside call given before after old new → Plain (messages_of given) before after old new
   plain given old new calls =
       record {
         supply_calls = calls.supply_calls;
@@ -216,7 +216,7 @@ module _ {S P : Type 0} (call : S → SupplyCall P → S → Type 0) where
       ([], behind old old new (beside (place ∷ []) (one old old _ stop.1 refl refl refl refl)) (refused old new place place' stop.2))
   some_taken (envelope ∷ envelopes) old new place place' window window' takes =
       let later = some_taken envelopes takes.2 new takes.1 place' (after_put window takes.0 envelope) window' takes.7 in
-      let asked = plain _ old takes.2 (hand_outs.asked_for call (Some envelope) old takes.2 place takes.1 takes.4).calls in
+      let asked = plain _ old takes.2 (hand_outs.asked_for call (Some envelope) old takes.2 place takes.1 takes.4).calls.calls in
       let first = after [] (envelope.message ∷ []) old old takes.2 (beside (place ∷ []) (one old old _ takes.3 refl refl refl refl)) asked in
       (envelope.message ∷ later.0, after (envelope.message ∷ []) later.0 old takes.2 new first later.1)
 

@@ -55,7 +55,7 @@ pub none_before : {P X : Type 0} (find : SupplyCall P → Option X) (supply_call
 none_before find supply_calls others xs none those = filter_map-append find supply_calls others ∙ (λ i. none i ++ those i)
 
 -- what is handed out by these calls, and then by those
-hands_both : {P : Type 0} (supply_calls others : List (SupplyCall P)) (given more : List Message) → messages_of (handed supply_calls) ≡ given → messages_of (handed others) ≡ more
+pub hands_both : {P : Type 0} (supply_calls others : List (SupplyCall P)) (given more : List Message) → messages_of (handed supply_calls) ≡ given → messages_of (handed others) ≡ more
     → messages_of (handed (supply_calls ++ others)) ≡ given ++ more
 hands_both {P} supply_calls others given more these those =
     ap messages_of (filter_map-append hand_out_of supply_calls others) ∙ map-append (λ (h : P × Held). h.1.message) (handed supply_calls) (handed others) ∙ (λ i. these i ++ those i)
@@ -128,7 +128,7 @@ module _ {S P : Type 0} (call : S → SupplyCall P → S → Type 0) where
       plain old new number phase input next calls (λ publish brings. absurd (never.0 publish brings)) (λ envelope fate confirms. absurd (never.1 envelope fate confirms))
 
   -- calls that offer and settle the same
-  offers_alike : (number : ℕ) (phase : ConnPhase P) (input : Input) (next : Then) (supply_calls all : List (SupplyCall P)) → matched all ≡ matched supply_calls → offered all ≡ offered supply_calls
+  pub offers_alike : (number : ℕ) (phase : ConnPhase P) (input : Input) (next : Then) (supply_calls all : List (SupplyCall P)) → matched all ≡ matched supply_calls → offered all ≡ offered supply_calls
       → OffersToEach number input supply_calls ⊎ OffersNone phase input supply_calls next → OffersToEach number input all ⊎ OffersNone phase input all next
   offers_alike number phase input next supply_calls all same_matches same_offers (inl each) =
       inl (record {
@@ -142,14 +142,14 @@ module _ {S P : Type 0} (call : S → SupplyCall P → S → Type 0) where
   offers_alike number phase input next supply_calls all same_matches same_offers (inr none) =
       inr (record { match = same_matches ∙ none.match; offers = same_offers ∙ none.offers; unless = none.unless })
 
-  settles_alike : (phase : ConnPhase P) (input : Input) (next : Then) (supply_calls all : List (SupplyCall P)) → settled all ≡ settled supply_calls
+  pub settles_alike : (phase : ConnPhase P) (input : Input) (next : Then) (supply_calls all : List (SupplyCall P)) → settled all ≡ settled supply_calls
       → SettlesOne phase input supply_calls ⊎ SettlesNone phase input supply_calls next → SettlesOne phase input all ⊎ SettlesNone phase input all next
   settles_alike phase input next supply_calls all same (inl only) =
       inl (record { envelope = only.envelope; fate = only.fate; confirmed = only.confirmed; settles = same ∙ only.settles })
   settles_alike phase input next supply_calls all same (inr none) = inr (record { settles = same ∙ none.settles; unless = none.unless })
 
   -- calls after those of a step, or before them, by which nothing is offered or settled
-  pub further : {between after : List P} (more : List Message) (old mid new : S) (number : ℕ) (phase : ConnPhase P) (input : Input) (next : Then)
+  abbrev pub further : {between after : List P} (more : List Message) (old mid new : S) (number : ℕ) (phase : ConnPhase P) (input : Input) (next : Then)
       → Walked [] old number phase input next between mid → Plain call more between after mid new → Walked more old number phase input next after new
   further {between} {after} more old mid new number phase input next calls others =
       let all = calls.supply_calls ++ others.supply_calls in
