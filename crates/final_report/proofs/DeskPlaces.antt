@@ -28,7 +28,7 @@ use Rattle.session_desk.specs.Attaching.{Request, AttachesClient, AttachesUnname
 use Rattle.session_desk.specs.Keeping.{EndsLent, IsLent, HasCell, freed, parked_at}
 use Rattle.session_desk.specs.Sweeping.{HandsOut}
 use Rattle.session_desk.specs.Calls.{Call, Attach, Withdraw, Kicked, Park, ParkAsIs, Keep, Bury, Sweep, LendPlace, TakePlace, Makes, MakesAll}
-use Rattle.session_desk.specs.Everything.{place_in, place_of, free_in, ArePlaces}
+use Rattle.session_desk.specs.Everything.{place_in, place_of, free_in, places_given, ArePlaces}
 use Rattle.session_desk.specs.Hands.{DeskLaw}
 use Rattle.session_desk.proofs.Seen.{insert_here, insert_other, remove_here, remove_other, no_length}
 use Rattle.session_desk.proofs.Kept.{none_of}

@@ -5,7 +5,7 @@ use Rattle.std.specs.List.{AllByRecursion}
 use Rattle.std.proofs.lemmas.List.Elements.{All-cons, All-nil}
 use Rattle.std.proofs.lemmas.List.Sums.{sum_by-append, sum_by-cons}
 use Rattle.group_jobs.specs.Stamps.{Held}
-use Rattle.session_desk.specs.Everything.{free_in, place_of}
+use Rattle.session_desk.specs.Everything.{free_in, place_of, places_given}
 use Rattle.session_desk.specs.declared.attached.Attached.{Attached}
 use Rattle.session_desk.specs.declared.attached.Attached.TheVariants.{New, Resumed, Replace, Busy}
 use Rattle.session_desk.specs.declared.error.DeskError.{DeskError}
@@ -18,7 +18,7 @@ use Rattle.broker_groups.specs.Answers.{Sights}
 use Rattle.conn_supply.specs.SupplyCalls.{SupplyCall}
 use Rattle.conn_supply.specs.SupplyCalls.SupplyCall.{Attach, Withdraw, Kicked, Park, ParkAsIs, Keep, Bury, Sweep, LendPlace, TakePlace, Bind, Find, Match, Offer, MayTake, Take, TakeBack, Settle, GiveBack}
 use Rattle.conn_laws.specs.Calls.{MakesAll as MakesCalls}
-use Rattle.conn_laws.specs.Places.{places_brought, places_given, places_taken}
+use Rattle.conn_laws.specs.Places.{places_brought, places_taken}
 use Rattle.shared_supply.specs.Calls.{AsksDesk, Calls, IsToldOfDesk, missing, waking}
 use Rattle.shared_supply.specs.Waking.{asking_back, freeing}
 use Rattle.shared_supply.specs.Workers.{Worker}
