@@ -1,5 +1,5 @@
 -- What was so amid rounds is so amid more of them.
-use Rattle.std.proofs.Common.{◌≡◌, ◌≢◌, ℕ, List, Option, Some, refl, sym, subst, ◌∙◌, inl, inr, ⊎_elim, arith}
+use Rattle.std.proofs.Common.{◌≡◌, ℕ, List, Option, Some, refl, sym, subst, ◌∙◌, inl, inr, ⊎_elim, arith}
 use Rattle.std.proofs.Math.Nat.{le_trans}
 use Rattle.transport.specs.declared.counts.Counts.{Counts}
 use Rattle.group_queue.specs.Ports.{GroupId}
@@ -7,10 +7,10 @@ use Rattle.broker_groups.specs.Answers.{Sights}
 use Rattle.shared_supply.specs.declared.wakes.Wakes.{Wakes}
 use Rattle.worker_connections.specs.Members.{HasTaker, TakesIn}
 use Rattle.worker_connections.specs.Serving.{ConnectionsState, GoesBy, Rounds, round_of, with_wakes}
-use Rattle.broker_worker.specs.Offering.{Amid, IsAsked, IsOffered, Offers, OffersEach}
+use Rattle.broker_worker.specs.Offering.{Amid, GoesOn, IsAsked, IsOffered, Offers, OffersEach}
 use Rattle.conn_service.specs.declared.served.Direction.TheVariants.{Outbound}
 use Rattle.conn_service.specs.declared.served.Round.{Round}
-use Rattle.conn_service.specs.declared.served.Round.TheVariants.{Writing}
+use Rattle.conn_service.specs.declared.served.Round.TheVariants as rounds
 use Rattle.worker_connections.specs.declared.cell_outcome.CellOutcome.{CellOutcome}
 use Rattle.worker_connections.specs.declared.cell_outcome.CellOutcome.TheVariants.{Vacant, Goes, Ended}
 
@@ -56,12 +56,13 @@ module _ {T : Type 0} where
 module _ {T : Type 0} (group : ℕ → GroupId) (seen : Sights) (counts : T → Counts) (given accepted : T → Option (List ℕ)) where
   -- a member that goes on and reads was offered one
   pub offered : (slot cell : ℕ) (old new : ConnectionsState T) (cell_outcome : CellOutcome T) (told : Round) → TakesIn slot cell old.cells
-      → GoesBy group seen counts given accepted cell Outbound 1 cell_outcome old new → round_of cell_outcome ≡ Some told → told ≢ Writing → IsOffered group seen counts given accepted slot old new
-  offered slot cell old new Vacant told takes goes is reads = absurd (cc is)
-  offered slot cell old new (Goes round) told takes goes is reads =
-      let same : round ≡ told = cc is in
-      record { cell = cell; round = round; takes = takes; might = record { most = 1; some = omega arith; goes = goes }; reads = λ writes. reads (sym same ∙ writes) }
-  offered slot cell old new (Ended how transport) told takes goes is reads = absurd (cc is)
+      → GoesBy group seen counts given accepted cell Outbound 1 cell_outcome old new → round_of cell_outcome ≡ Some told → GoesOn told → IsOffered group seen counts given accepted slot old new
+  offered slot cell old new Vacant told takes goes is on = absurd (cc is)
+  offered slot cell old new (Goes round) told takes goes is on =
+      let same : told ≡ round = cc is in
+      record { cell = cell; round = round; takes = takes; might = record { most = 1; some = omega arith; goes = goes }; reads = subst GoesOn same on }
+  offered slot cell old new (Ended how transport) told takes goes is on =
+      let same : told ≡ rounds.Ended how = cc is in absurd (subst GoesOn same on)
 
   -- something was offered after further rounds
   pub offers_later : (slot : ℕ) (old mid new : ConnectionsState T) → Rounds old mid → Offers group seen counts given accepted slot mid new → Offers group seen counts given accepted slot old new

@@ -1,15 +1,23 @@
 -- In a sweep something is offered to the members of each group: one that reads and has room may be handed a message then, whatever the other workers have.
-use Rattle.std.specs.Prelude.{◌≡◌, ◌≢◌, ◌⊎◌, ℕ, ◌<◌, ◌≤◌, List, length, Option}
+use Rattle.std.specs.Prelude.{◌≡◌, ◌⊎◌, ℕ, ◌<◌, ◌≤◌, List, length, Option, ⊤}
 use Rattle.transport.specs.declared.counts.Counts.{Counts}
 use Rattle.group_queue.specs.Ports.{GroupId}
 use Rattle.broker_groups.specs.Answers.{Sights}
 use Rattle.conn_service.specs.declared.served.Direction.TheVariants.{Outbound}
 use Rattle.conn_service.specs.declared.served.Round.{Round}
-use Rattle.conn_service.specs.declared.served.Round.TheVariants.{Writing}
+use Rattle.conn_service.specs.declared.served.Round.TheVariants as rounds
 use Rattle.worker_connections.specs.declared.cell_outcome.CellOutcome.{CellOutcome}
 use Rattle.worker_connections.specs.declared.cell_outcome.CellOutcome.TheVariants.{Goes}
 use Rattle.worker_connections.specs.Members.{TakesIn}
 use Rattle.worker_connections.specs.Serving.{ConnectionsState, GoesBy, Rounds, StaysOf}
+
+-- a connection that waits for this has not ended, and does not have to wait until its client reads
+abbrev pub GoesOn : Round → Type 0
+GoesOn rounds.More = ⊤
+GoesOn rounds.Reading = ⊤
+GoesOn rounds.Writing = ⊥
+GoesOn rounds.Waiting = ⊤
+GoesOn (rounds.Ended how) = ⊥
 
 -- it was so somewhere between rounds of these connections
 abbrev pub Amid : {T : Type 0} → (ConnectionsState T → ConnectionsState T → Type 0) → ConnectionsState T → ConnectionsState T → Type 0
@@ -32,7 +40,7 @@ module _ {T : Type 0} (group : ℕ → GroupId) (seen : Sights) (counts : T → 
     pub round : Round
     pub takes : TakesIn slot cell old.cells
     pub might : MightTake cell (Goes round) old new
-    pub reads : round ≢ Writing
+    pub reads : GoesOn round
 
   -- a member of the group was offered one; or each client was asked, and those that are members with room do not read
   abbrev pub Offers : (slot : ℕ) → ConnectionsState T → ConnectionsState T → Type 0

@@ -1,8 +1,7 @@
 //! What is offered to the members of each group in a sweep, whatever the others have: so no hint that is out of date lets a message wait for longer.
-ghost use Rattle.std.specs.Prelude.{◌≡◌, ◌≢◌, ◌<◌, true, false, Some, length};
+ghost use Rattle.std.specs.Prelude.{◌≡◌, ◌<◌, true, false, Some, length};
 ghost use Rattle.conn_service.specs.declared.served.Round.{Round as AnyRound};
-ghost use Rattle.conn_service.specs.declared.served.Round.TheVariants.{Writing};
-ghost use Rattle.broker_worker.specs.Offering.{IsAsked, IsOffered, Offers, OffersEach};
+ghost use Rattle.broker_worker.specs.Offering.{GoesOn, IsAsked, IsOffered, Offers, OffersEach};
 ghost use Rattle.worker_connections.specs.Serving.{Rounds};
 
 use crate::worker::{READ_SIZE, Worker};
@@ -91,11 +90,10 @@ impl<
 
 /// Whether a connection that waits for this has not ended, and does not have to wait until its client reads.
 fn goes_on(round: Option<Round>) -> bool
-    ensures { result ≡ true → (told : AnyRound) × (round ≡ Some told) × (told ≢ Writing) }
+    ensures { result ≡ true → (told : AnyRound) × (round ≡ Some told) × GoesOn told }
 {
     match round {
-        Some(Round::Writing) => false,
-        Some(_) => true,
-        None => false,
+        Some(Round::More | Round::Reading | Round::Waiting) => true,
+        Some(Round::Writing | Round::Ended(_)) | None => false,
     }
 }

@@ -1,6 +1,6 @@
 //! The rounds of a worker's connections: which are to go on in its turn.
 ghost use Rattle.std.specs.Prelude.{◌≡◌, ◌<◌, ◌+◌, true, false, length};
-ghost use Rattle.worker_connections.specs.Serving.{GoesBy, Rounds, round_of, round_told};
+ghost use Rattle.worker_connections.specs.Serving.{GoesBy, Rounds, round_of};
 ghost use Rattle.worker_connections.specs.declared.cell_outcome.CellOutcome.{CellOutcome as AnyOutcome};
 ghost use Rattle.worker_connections.specs.Sweeping.{HasGone, IsInTime, Notes};
 
@@ -13,7 +13,7 @@ use conn_service::{Direction, Round};
 use std::sync::Wait;
 use transport::{Crossing, Transport};
 use worker_bells::Mailboxes;
-use worker_connections::{Poller, RoundOutcome};
+use worker_connections::Poller;
 
 impl<
     'a,
@@ -82,8 +82,8 @@ impl<
         }
     }
 
-    /// Goes on with the connection in a cell by a round this way, in which so many messages at most are handed to its client. What it waits for; `None` where there is
-    /// none, or it has ended.
+    /// Goes on with the connection in a cell by a round this way, in which so many messages at most are handed to its client. What it waits for then; `None` where there is
+    /// none.
     pub(crate) fn round(
         &mut self,
         cell: usize,
@@ -96,7 +96,7 @@ impl<
         ensures made { cell < length self.old.connections.cells → (cell_outcome : AnyOutcome T) × (result ≡ round_of cell_outcome) × GoesBy B.group B.Seen.Witness T.counts T.given T.accepted cell direction most cell_outcome self.old.connections self.new.connections }
     {
         let worker = u32::try_from(self.number).unwrap_or(u32::MAX);
-        let outcome = self
+        let round = self
             .connections
             .round(cell, self.crossing, worker, buffer, direction, most);
         note_went(
@@ -105,35 +105,26 @@ impl<
             self.number,
             cell,
             direction,
-            outcome,
-        )
+            round,
+        );
+        round
     }
 }
 
 /// Notes what a round this way made of a cell: whose connection can do more at once, or has something to be written that was not tried yet, is due, and one that has
-/// ended has left the worker. What it waits for; `None` where there is none, or it has ended.
+/// ended has left the worker.
 fn note_went<W: Wake>(
     due: &mut Marks,
     mailboxes: &Mailboxes<W>,
     number: usize,
     cell: usize,
     direction: Direction,
-    outcome: RoundOutcome,
-) -> Option<Round>
-    ensures { result ≡ round_told outcome }
-{
-    match outcome {
-        RoundOutcome::Nowhere => None,
-        RoundOutcome::On(round) => {
-            if is_due_again(round, direction) {
-                due.mark(cell);
-            }
-            Some(round)
-        }
-        RoundOutcome::ToItsEnd => {
-            mailboxes.leave(number);
-            None
-        }
+    round: Option<Round>,
+) {
+    match round {
+        Some(Round::Ended(_)) => mailboxes.leave(number),
+        Some(round) if is_due_again(round, direction) => due.mark(cell),
+        _ => {}
     }
 }
 

@@ -14,3 +14,4 @@ pub mod Turning
 pub mod Going
 pub mod Numbers
 pub mod RunCalls
+pub mod Opened

@@ -1,5 +1,5 @@
 -- The connections of a worker of a broker: each that it received is open, or has ended and is counted by its ending.
-use Rattle.std.specs.Prelude.{◌≡◌, ◌⊎◌, ℕ, ◌+◌, List, length, Option, Some, None}
+use Rattle.std.specs.Prelude.{◌≡◌, ◌≢◌, ◌⊎◌, ℕ, ◌+◌, List, length, Option, Some, None}
 use Rattle.transport.specs.declared.counts.Counts.{Counts}
 use Rattle.group_queue.specs.Ports.{GroupId, PortState}
 use Rattle.broker_groups.specs.Answers.{Sights}
@@ -9,16 +9,17 @@ use Rattle.conn_service.specs.declared.served.Served.{Served}
 use Rattle.conn_service.specs.declared.served.Served.TheVariants.{Memory}
 use Rattle.conn_service.specs.Services.{ServiceState}
 use Rattle.worker_connections.specs.Cells.{FollowsIn, InCell, Opens, Turns as TurnsIn, occupied}
+use Rattle.worker_connections.specs.declared.admission.Admission.{Admission}
+use Rattle.worker_connections.specs.declared.admission.Admission.TheVariants as admission
 use Rattle.worker_connections.specs.declared.cell_outcome.CellOutcome.{CellOutcome}
 use Rattle.worker_connections.specs.declared.cell_outcome.CellOutcome.TheVariants.{Vacant, Goes, Ended}
 use Rattle.conn_service.specs.declared.served.Direction.{Direction}
 use Rattle.conn_service.specs.declared.served.Round.{Round}
+use Rattle.conn_service.specs.declared.served.Round.TheVariants as rounds
 use Rattle.shared_supply.specs.Calls.{Calls}
 use Rattle.shared_supply.specs.Waking.{no_wakes}
 use Rattle.shared_supply.specs.Workers.{Worker, Begins, Leaves, is_visiting}
 use Rattle.shared_supply.specs.declared.wakes.Wakes.{Wakes}
-use Rattle.worker_connections.specs.declared.cell_outcome.RoundOutcome.{RoundOutcome}
-use Rattle.worker_connections.specs.declared.cell_outcome.RoundOutcome.TheVariants as outcome
 use Rattle.worker_connections.specs.declared.served.ServedCounts.{ServedCounts}
 use Rattle.worker_connections.specs.declared.sweeps.Sweeps.{Sweeps}
 use Rattle.worker_connections.specs.Arrivals.{ArrivedState, IsWatched, opening_at}
@@ -120,22 +121,18 @@ TakesIn counts given accepted first now arrived old served polled new served' po
     ((cell : ℕ) × Admits counts given accepted first now arrived old polled (Some cell) new polled' × (served' ≡ served))
     ⊎ (Admits counts given accepted first now arrived old polled None new polled' × (served' ≡ counted Memory served))
 
--- what a connection waits for after a round; none where there is none, or it has ended
+-- what came through the channel is told of the cells: a connection was opened in the free cell that is told, and in no other; or none was opened
+abbrev pub TellsCell : {T : Type 0} → Admission → List (Option (ServiceState PlaceState T)) → List (Option (ServiceState PlaceState T)) → Type 0
+TellsCell (admission.Opened cell) old new = InCell old cell (λ before after. (before ≡ None) × (after ≢ None)) new
+TellsCell admission.Refused old new = new ≡ old
+TellsCell admission.EndMark old new = new ≡ old
+TellsCell admission.Nothing old new = new ≡ old
+
+-- what the connection in a cell waits for after a round, or how it has ended; none where the cell was free
 abbrev pub round_of : {T : Type 0} → CellOutcome T → Option Round
 round_of Vacant = None
 round_of (Goes round) = Some round
-round_of (Ended how transport) = None
-
-abbrev pub round_told : RoundOutcome → Option Round
-round_told outcome.Nowhere = None
-round_told (outcome.On round) = Some round
-round_told outcome.ToItsEnd = None
-
--- what is told of a round that was made in a cell
-abbrev pub Tells : {T : Type 0} → CellOutcome T → RoundOutcome → Type 0
-Tells Vacant told = told ≡ outcome.Nowhere
-Tells (Goes round) told = told ≡ outcome.On round
-Tells (Ended how transport) told = told ≡ outcome.ToItsEnd
+round_of (Ended how transport) = Some (rounds.Ended how)
 
 -- those that have ended, the latest first, are counted by their endings; together with those in the cells they are as many as were received
 pub record IsAccounted {T : Type 0} (received : ℕ) (cells : List (Option (ServiceState PlaceState T))) (served : ServedCounts) : Type 0 where

@@ -1,17 +1,17 @@
 //! A connection that came is opened in a cell, and one that has ended is closed.
 ghost use Rattle.std.specs.Prelude.{◌≡◌, length};
 ghost use Rattle.worker_connections.specs.Polling.{closed_after};
-ghost use Rattle.worker_connections.specs.Serving.{Admits, TakesIn, Tells};
+ghost use Rattle.worker_connections.specs.Serving.{Admits, TakesIn, TellsCell, round_of};
 
 use crate::admission::Admission;
 use crate::arrived::Arrived;
-use crate::cell_outcome::{CellOutcome, RoundOutcome};
+use crate::cell_outcome::CellOutcome;
 use crate::poller::Poller;
 use crate::served::ServedCounts;
 use crate::table::ServiceTable;
 use broker_groups::{Broker, BrokerPlace};
 use conn_engine::Opening;
-use conn_service::Served;
+use conn_service::{Round, Served};
 use transport::Transport;
 
 /// Opens a connection that came, at this moment, with the number of its cell; where it can't, it closes it and counts it as ended.
@@ -24,6 +24,7 @@ pub(crate) fn take_in<B: Broker, T: Transport, Q: Poller<T>>(
     now: u64,
 ) -> Admission
     ensures taken { TakesIn T.counts T.given T.accepted first now arrived table.old served.old (Q.polled poller.old) table.new served.new (Q.polled poller.new) }
+    ensures cell { TellsCell result table.old table.new }
     ensures len { length table.new ≡ length table.old }
 {
     match admit(table, poller, arrived, first, now) {
@@ -70,21 +71,21 @@ fn admit<B: Broker, T: Transport, Q: Poller<T>>(
     }
 }
 
-/// What a round made of the connection in a cell; where it has ended, it is closed.
+/// What the connection in a cell waits for after a round; where it has ended, it is closed. `None` where there is none.
 pub(crate) fn settle<T: Transport, Q: Poller<T>>(
     poller: &mut Q,
     cell: usize,
     cell_outcome: CellOutcome<T>,
-) -> RoundOutcome
-    ensures told { Tells cell_outcome result }
+) -> Option<Round>
+    ensures told { result ≡ round_of cell_outcome }
     ensures polled { Q.polled poller.new ≡ closed_after cell_outcome (Q.polled poller.old) }
 {
     match cell_outcome {
-        CellOutcome::Vacant => RoundOutcome::Nowhere,
-        CellOutcome::Goes(round) => RoundOutcome::On(round),
-        CellOutcome::Ended(_, transport) => {
+        CellOutcome::Vacant => None,
+        CellOutcome::Goes(round) => Some(round),
+        CellOutcome::Ended(served, transport) => {
             poller.close(Some(cell), transport);
-            RoundOutcome::ToItsEnd
+            Some(Round::Ended(served))
         }
     }
 }

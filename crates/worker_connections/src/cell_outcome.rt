@@ -10,13 +10,3 @@ pub enum CellOutcome<T> {
     /// Its connection has ended so, and this is its transport; the cell is free.
     Ended(Served, T),
 }
-
-/// What is told of that, once the transport is closed.
-pub enum RoundOutcome {
-    /// There is no connection in it.
-    Nowhere,
-    /// Its connection goes on, and waits for this.
-    On(Round),
-    /// Its connection has ended, and the cell is free.
-    ToItsEnd,
-}

@@ -9,7 +9,7 @@ ghost use Rattle.shared_supply.specs.Workers.{Begins as BeginsVisit, Leaves as L
 ghost use Rattle.worker_connections.specs.Chains.{HasRunTo, OwesNothing};
 ghost use Rattle.worker_connections.specs.Polling.{Wait as Waits, HasNoCalls, and_called};
 ghost use Rattle.worker_connections.specs.Handles.{IsUnused};
-ghost use Rattle.worker_connections.specs.Serving.{AreCounted, AreFresh, GoesBy, IsDone, Rounds, StaysOf, Tells, live, run_of, wakes_of, with_wakes};
+ghost use Rattle.worker_connections.specs.Serving.{AreCounted, AreFresh, GoesBy, IsDone, Rounds, StaysOf, TellsCell, live, round_of, run_of, wakes_of, with_wakes};
 ghost use Rattle.worker_connections.specs.Members.{HasTaker, TakesIn as WouldTake, one_called_if};
 ghost use Rattle.worker_bells.specs.Wishing.{IsWished};
 ghost use Rattle.worker_connections.specs.Sweeping.{AreTicked, Begins, HasGone, IsInTime, Notes, WaitsInTime, looked, sweep_period};
@@ -17,7 +17,7 @@ ghost use Rattle.worker_connections.specs.Sweeping.{AreTicked, Begins, HasGone, 
 use crate::admission::Admission;
 use crate::admitting::{settle, take_in};
 use crate::arrived::Arrived;
-use crate::cell_outcome::{CellOutcome, RoundOutcome};
+use crate::cell_outcome::CellOutcome;
 use crate::handle::WorkerHandle;
 use crate::noting::{note_held, note_interest};
 use crate::poller::Poller;
@@ -28,7 +28,7 @@ use crate::table::ServiceTable;
 use broker_groups::{Broker, BrokerPlace};
 use call_history::HistoryName;
 use conn_channel::{Received, Receiver};
-use conn_service::Direction;
+use conn_service::{Direction, Round};
 use shared_supply::{GroupTally, SharedSupply, SupplyParts, Wakes};
 use std::marker::Model;
 use std::sync::Wait;
@@ -259,6 +259,7 @@ impl<'a, 'g, B: Broker, N: HistoryName, T: Transport + Drop, Q: Poller<T>, R: Wa
     /// system does not watch it, it is closed and has ended at once.
     pub fn receive(&mut self, rt: &R) -> Admission
         ensures same { StaysOf self.old self.new }
+        ensures cell { TellsCell result self.old.cells self.new.cells }
         ensures sweeps { self.new.sweeps ≡ self.old.sweeps }
         ensures supply { self.new.supply ≡ self.old.supply }
     {
@@ -283,7 +284,7 @@ impl<'a, 'g, B: Broker, N: HistoryName, T: Transport + Drop, Q: Poller<T>, R: Wa
     }
 
     /// The connection in a cell goes on by a round this way, at the worker's moment, in which so many messages at most are handed to its client for the first time. Where
-    /// that ends it, it is closed.
+    /// that ends it, it is closed. What it waits for then; `None` where the cell is free.
     pub fn round<X: Crossing>(
         &mut self,
         cell: usize,
@@ -292,14 +293,14 @@ impl<'a, 'g, B: Broker, N: HistoryName, T: Transport + Drop, Q: Poller<T>, R: Wa
         buffer: &mut [u8],
         direction: Direction,
         most: u32,
-    ) -> RoundOutcome
+    ) -> Option<Round>
         requires room { 0 < length buffer.old }
         ensures goes { Rounds self.old self.new }
         ensures notes { cell < length self.old.cells → Notes cell (length self.old.cells) self.old.sweeps self.new.sweeps }
-        ensures made { cell < length self.old.cells → (cell_outcome : AnyOutcome T) × Tells cell_outcome result × GoesBy B.group B.Seen.Witness T.counts T.given T.accepted cell direction most cell_outcome self.old self.new }
+        ensures made { cell < length self.old.cells → (cell_outcome : AnyOutcome T) × (result ≡ round_of cell_outcome) × GoesBy B.group B.Seen.Witness T.counts T.given T.accepted cell direction most cell_outcome self.old self.new }
     {
         if cell >= self.table.len() {
-            return RoundOutcome::Nowhere;
+            return None;
         }
         self.go_on(cell, crossing, worker, buffer, direction, most)
     }
@@ -313,12 +314,12 @@ impl<'a, 'g, B: Broker, N: HistoryName, T: Transport + Drop, Q: Poller<T>, R: Wa
         buffer: &mut [u8],
         direction: Direction,
         most: u32,
-    ) -> RoundOutcome
+    ) -> Option<Round>
         requires cell { cell < length self.old.cells }
         requires room { 0 < length buffer.old }
         ensures goes { Rounds self.old self.new }
         ensures notes { Notes cell (length self.old.cells) self.old.sweeps self.new.sweeps }
-        ensures made { (cell_outcome : AnyOutcome T) × Tells cell_outcome result × GoesBy B.group B.Seen.Witness T.counts T.given T.accepted cell direction most cell_outcome self.old self.new }
+        ensures made { (cell_outcome : AnyOutcome T) × (result ≡ round_of cell_outcome) × GoesBy B.group B.Seen.Witness T.counts T.given T.accepted cell direction most cell_outcome self.old self.new }
     {
         let now = self.sweeps.latest;
         self.supply.allow(most);

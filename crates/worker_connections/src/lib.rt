@@ -21,7 +21,7 @@ mod table;
 
 pub use admission::Admission;
 pub use arrived::Arrived;
-pub use cell_outcome::{CellOutcome, RoundOutcome};
+pub use cell_outcome::CellOutcome;
 pub use connections::Connections;
 pub use handle::WorkerHandle;
 pub use poller::{Poller, Woken};
