@@ -266,7 +266,7 @@ impl<
         ensures receiver { result.receiver ≡ self.entry.connections.receiver }
         ensures served { result.served ≡ self.entry.connections.served }
         ensures counted { live self.entry.connections ≡ 0 → AreCounted (length self.entry.connections.receiver.received) result.served }
-        ensures polled { Q.polled result.poller ≡ self.entry.connections.polled }
+        ensures poller_calls { Q.poller_calls result.poller ≡ self.entry.connections.poller_calls }
         ensures ran { HasRunTo B.group B.Seen.Witness T.counts T.given T.accepted (run_of self.entry.connections) }
         ensures ports { live self.entry.connections ≡ 0 → result.handle.ports ≡ self.entry.connections.supply.ports }
         ensures known { live self.entry.connections ≡ 0 → result.known ≡ self.entry.connections.supply.known }

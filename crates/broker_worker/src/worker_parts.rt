@@ -2,7 +2,7 @@
 ghost use Rattle.std.specs.Prelude.{◌≡◌, ◌≤◌, ◌++◌, ℕ, [], ◌∷◌, length, IfOk, OnOk};
 ghost use Rattle.conn_channel.specs.Ends.{AreReceivers};
 ghost use Rattle.broker_worker.specs.Parts.{ArePartsOf};
-ghost use Rattle.worker_connections.specs.Polling.{HasNoCalls};
+ghost use Rattle.worker_connections.specs.PollerCalls.{HasNoCalls};
 
 use crate::marks::Marks;
 use bell::Wake;
@@ -22,19 +22,19 @@ pub struct UnusedPoller<T: Transport, Q: Poller<T>> {
 }
 
 impl<T: Transport, Q: Poller<T>> Model for UnusedPoller<T, Q> {
-    ghost use Rattle.worker_connections.specs.Polling.{HasNoCalls};
+    ghost use Rattle.worker_connections.specs.PollerCalls.{HasNoCalls};
 
     ghost Value = { Q };
 
     ghost view = { λ g. g.poller };
 
-    ghost invariant = { λ g. HasNoCalls (Q.polled g.poller) };
+    ghost invariant = { λ g. HasNoCalls (Q.poller_calls g.poller) };
 }
 
 impl<T: Transport, Q: Poller<T>> UnusedPoller<T, Q> {
     /// A poller that was not used yet.
     pub fn new(poller: Q) -> UnusedPoller<T, Q>
-        requires { HasNoCalls (Q.polled poller) }
+        requires { HasNoCalls (Q.poller_calls poller) }
         ensures { result ≡ poller }
     {
         UnusedPoller {
@@ -46,7 +46,7 @@ impl<T: Transport, Q: Poller<T>> UnusedPoller<T, Q> {
     /// The poller.
     pub(crate) fn into_inner(self) -> Q
         ensures same { result ≡ self }
-        ensures none_polled { HasNoCalls (Q.polled result) }
+        ensures no_poller_calls { HasNoCalls (Q.poller_calls result) }
     {
         let UnusedPoller {
             poller,

@@ -1,5 +1,5 @@
 -- Calls one after the other, by which nothing is offered and nothing is settled, and what they hand out.
-use Rattle.std.proofs.Common.{◌≡◌, ℕ, Bool, true, false, List, [], ◌∷◌, ◌++◌, filter_map, Option, Some, None, Result, Ok, Err, refl, sym, ap, subst, ◌∙◌, inl, inr, nat_lt, not, ◌&&◌}
+use Rattle.std.proofs.Common.{◌≡◌, ℕ, Bool, true, false, List, [], ◌∷◌, ◌++◌, filter_map, Option, Some, None, Result, Ok, Err, ◌⊎◌, refl, sym, ap, subst, ◌∙◌, inl, inr, nat_lt, not, ◌&&◌}
 use Rattle.std.proofs.lemmas.List.{map-append}
 use Rattle.std.proofs.lemmas.List.Elements.{filter_map-append}
 use Rattle.mqtt_packet.specs.declared.packet.Packet.{Packet}
@@ -26,7 +26,7 @@ use Rattle.conn_engine.specs.declared.phase.ConnPhase.{ConnPhase}
 use Rattle.conn_engine.specs.Connecting.{opened, has_place, most_ticks, RetiresEarlier, WaitsAs, ResumesAs, AttachedAs, Attaches, FailsWith, FailsToAttach, TriesAgain, FailsAgain}
 use Rattle.conn_engine.specs.Ending.{Parts, Sweeps}
 use Rattle.conn_laws.specs.Calls.{offer_of, match_of, settlement_of, hand_out_of, offered, matched, settled, handed, messages_of, fresh_messages, MakesAll}
-use Rattle.conn_laws.specs.Places.{own_places, places_brought, places_taken, KeepsPlaces, KeepsInTurn}
+use Rattle.conn_laws.specs.Places.{own_places, places_brought, places_taken, KeepsPlaces}
 use Rattle.conn_laws.proofs.KeptPlaces.{kept_by_none, kept_by_one, kept_by_both, kept_beside, kept_behind}
 use Rattle.conn_laws.proofs.Aside.{Aside, none_in_both}
 use Rattle.conn_laws.proofs.Aside as asides
@@ -190,15 +190,15 @@ module _ {S P : Type 0} (call : S → SupplyCall P → S → Type 0) where
       behind old fails.mid new (failed_to_attach old fails.mid number now request fails.failed) (one fails.mid new _ fails.withdrawn refl refl refl refl)
 
   -- messages are handed out, to the place of this membership, one after the other
-  pub record HandsInTurn (given : List Message) (membership : Membership P) (after : List P) (old new : S) : Type 0 where
-    pub calls : Plain given (place_in membership) after old new
-    pub in_turn : KeepsInTurn (place_in membership) calls.supply_calls after
+  pub record HandsInTurn (given : List Message) (membership membership' : Membership P) (old new : S) : Type 0 where
+    pub calls : Plain given (place_in membership) (place_in membership') old new
+    pub to_one : (handed calls.supply_calls ≡ []) ⊎ hand_outs.AsksOnlyFor (place_in membership) calls.supply_calls membership'
 
   pub handed_out : (old new : S) (membership : Membership P) (window : Contents Held) (packets : List Packet) (membership' : Membership P) (window' : Contents Held)
-      → HandsOut call old membership window packets membership' window' new → HandsInTurn (fresh_messages packets) membership (place_in membership') old new
+      → HandsOut call old membership window packets membership' window' new → HandsInTurn (fresh_messages packets) membership membership' old new
   handed_out old new membership window packets membership' window' hands =
       let out = hand_outs.handed_out call old new membership window packets membership' window' hands in
-      subst (λ given. HandsInTurn given membership (place_in membership') old new) (sym out.messages) (record { calls = plain out.given old new out.calls; in_turn = out.in_turn })
+      subst (λ given. HandsInTurn given membership membership' old new) (sym out.messages) (record { calls = plain out.given old new out.calls; to_one = out.to_one })
 
   refused : (old new : S) (place place' : P) → IsRefused call old place place' new → Plain [] (place ∷ []) (place' ∷ []) old new
   refused old new place place' (inl at_once) = one old new _ at_once.1 refl refl refl refl

@@ -170,7 +170,7 @@ module _ {S P : Type 0} (call : S → SupplyCall P → S → Type 0) (slot_of : 
   refused_over (Some refusal) phase reply is = is.over
   refused_over None phase reply is = is.over
 
-  last_over : (phase : ConnPhase P) (input : Input) (old new : S) (number now : ℕ) (between : ConnPhase P) (reply : Reply) → IsLast input
+  pub last_over : (phase : ConnPhase P) (input : Input) (old new : S) (number now : ℕ) (between : ConnPhase P) (reply : Reply) → IsLast input
       → Reacts call slot_of old number phase now input between reply new → between ≡ Ended
   last_over phase (inputs.Packet packet) old new number now between reply last is = absurd last
   last_over phase inputs.Tick old new number now between reply last is = absurd last

@@ -17,12 +17,13 @@ use Rattle.conn_engine.specs.declared.phase.ConnPhase.{ConnPhase}
 use Rattle.conn_engine.specs.declared.phase.ConnPhase.TheVariants.{Unconnected, Waiting, Connected, Ended}
 use Rattle.conn_engine.specs.Answering.{FailsToAnswer}
 use Rattle.conn_laws.specs.Places.{own_places, KeepsPlaces}
-use Rattle.conn_laws.specs.Calls.{offer_of, match_of, settlement_of, offered, matched, settled, MakesAll, OffersToEach, OffersNone, SettlesOne, SettlesNone, OffersToSome, FailedCalls}
+use Rattle.conn_laws.specs.Calls.{offer_of, match_of, settlement_of, offered, matched, settled, handed, MakesAll, OffersToEach, OffersNone, SettlesOne, SettlesNone, OffersToSome, FailedCalls}
 use Rattle.conn_supply.specs.Publishing.{OffersFirst, OffersSome, IsCutShort}
 use Rattle.conn_engine.specs.Step.{hearing, after_hand_out, GivesUp, ShutsDown, CutsOff, FailsToReact, HandsLess, FailsToHand, FailsToStep}
 use Rattle.conn_laws.proofs.KeptPlaces.{kept_by_none, kept_by_one, kept_by_both, kept_beside}
 use Rattle.conn_laws.proofs.Calling.{Plain, HandsSomething, beside, still, one, behind, after, joins, parted, swept, failed_to_attach, failed_again, handed_some, some_answered}
-use Rattle.conn_laws.proofs.Stepping.{Walked, none_behind, none_before, further, reacted}
+use Rattle.conn_laws.proofs.Ended.{last_over}
+use Rattle.conn_laws.proofs.Stepping.{Walked, none_behind, none_before, none_of_none, further, reacted}
 
 module _ {S P : Type 0} (call : S → SupplyCall P → S → Type 0) where
   plain : (given : List Message) (old new : S) (number : ℕ) (phase : ConnPhase P) (input : Input) → Plain call given (own_places phase) [] old new → FailedCalls call old number phase input new
@@ -242,3 +243,25 @@ module _ {S P : Type 0} (call : S → SupplyCall P → S → Type 0) where
         further call some.0 old hand.mid new number phase input hand.reply.next
         (reacted call slot_of phase input old hand.mid number now hand.between hand.reply hand.reacts) some.1))
         fails
+
+    -- at the end of the input nothing is handed out before an allocation fails
+    never_reacts : (phase : ConnPhase P) (old new : S) (number now : ℕ) → FailsToReact call slot_of old number phase now inputs.EndOfInput new → ⊥
+    never_reacts (Unconnected opened) old new number now fails = fails
+    never_reacts (Waiting request ticks) old new number now fails = fails
+    never_reacts (Connected connected) old new number now fails = fails
+    never_reacts Ended old new number now fails = fails
+
+    never_hands : (phase : ConnPhase P) (old new : S) (number now : ℕ) → FailsToHand call slot_of old number phase now inputs.EndOfInput new → ⊥
+    never_hands phase old new number now fails =
+        let over = last_over call slot_of phase inputs.EndOfInput old fails.mid number now fails.between fails.reply tt fails.reacts in
+        subst (λ between. HandsLess call slot_of fails.mid between now new) over fails.hands
+
+    pub failed_at_the_end : (old new : S) (number now : ℕ) (phase : ConnPhase P) → FailsToStep call slot_of old number phase now inputs.EndOfInput new
+        → (calls : FailedCalls call old number phase inputs.EndOfInput new) × (handed calls.supply_calls ≡ [])
+    failed_at_the_end old new number now phase (inl cuts) =
+        let calls = given_up phase old new number now cuts in (
+          record { supply_calls = calls.supply_calls; made = calls.made; offers = inr calls.offers; settles = inr calls.settles; places = calls.places },
+          none_of_none (handed calls.supply_calls) calls.hands,
+        )
+    failed_at_the_end old new number now phase (inr (inl fails)) = absurd (never_reacts phase old new number now fails)
+    failed_at_the_end old new number now phase (inr (inr fails)) = absurd (never_hands phase old new number now fails)

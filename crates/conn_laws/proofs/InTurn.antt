@@ -1,12 +1,13 @@
 -- Calls by which a place is handed messages in turn, each as the call before left it.
 use Rattle.std.proofs.Common.{◌≡◌, List, [], ◌∷◌, ◌++◌, filter_map, Option, None, refl, sym, subst}
+use Rattle.std.specs.List.{AllByRecursion}
 use Rattle.group_jobs.specs.Stamps.{Held}
 use Rattle.conn_supply.specs.SupplyCalls.{SupplyCall}
-use Rattle.conn_laws.specs.Calls.{offer_of, match_of, settlement_of, hand_out_of}
+use Rattle.conn_laws.specs.Calls.{offer_of, match_of, settlement_of, hand_out_of, AsksForMessage}
 use Rattle.conn_laws.specs.Places.{places_brought, places_taken, KeepsInTurn}
 use Rattle.conn_laws.specs.Transcripts.{IsAside}
 use Rattle.conn_laws.proofs.KeptPlaces.{kept_by_none}
-use Rattle.conn_laws.proofs.Aside.{Aside}
+use Rattle.conn_laws.proofs.Aside.{Aside, all_of_both}
 use Rattle.conn_laws.proofs.Aside as asides
 
 both_in_turn : {P : Type 0} (before between after : List P) (these those : List (SupplyCall P)) → KeepsInTurn before these between → KeepsInTurn between those after → KeepsInTurn before (these ++ those) after
@@ -18,6 +19,7 @@ module _ {S P : Type 0} (call : S → SupplyCall P → S → Type 0) where
   pub record InTurn (given : List (P × Held)) (before after : List P) (old new : S) : Type 0 where
     pub calls : Aside call given before after old new
     pub in_turn : KeepsInTurn before calls.supply_calls after
+    pub only : AllByRecursion AsksForMessage calls.supply_calls
 
   -- the places after them, said otherwise
   pub becomes : {given : List (P × Held)} {before after after' : List P} {old new : S} → after' ≡ after → InTurn given before after old new → InTurn given before after' old new
@@ -28,18 +30,23 @@ module _ {S P : Type 0} (call : S → SupplyCall P → S → Type 0) where
       becomes same_places (record {
         calls = record { supply_calls = []; made = same; aside = tt; match = refl; offers = refl; settles = refl; hands = refl; places = kept_by_none before };
         in_turn = refl;
+        only = tt;
       })
 
   -- one call, by which this is handed out, if anything is; there are others behind its places
-  pub hand : (others : List P) (hand_out : Option (P × Held)) (old new : S) (supply_call : SupplyCall P) → call old supply_call new → IsAside supply_call → match_of supply_call ≡ None → offer_of supply_call ≡ None
+  pub hand : (others : List P) (hand_out : Option (P × Held)) (old new : S) (supply_call : SupplyCall P) → call old supply_call new → AsksForMessage supply_call → IsAside supply_call → match_of supply_call ≡ None → offer_of supply_call ≡ None
       → settlement_of supply_call ≡ None → hand_out_of supply_call ≡ hand_out
       → InTurn (filter_map (λ (o : Option (P × Held)). o) (hand_out ∷ [])) (places_taken supply_call ++ others) (places_brought supply_call ++ others) old new
-  hand others hand_out old new supply_call called is_aside no_match no_offer no_settlement hands =
-      record { calls = asides.beside call others (asides.hand call hand_out old new supply_call called is_aside no_match no_offer no_settlement hands); in_turn = (others, refl, refl) }
+  hand others hand_out old new supply_call called asks is_aside no_match no_offer no_settlement hands = record {
+    calls = asides.beside call others (asides.hand call hand_out old new supply_call called is_aside no_match no_offer no_settlement hands);
+    in_turn = (others, refl, refl);
+    only = (asks, tt);
+  }
 
-  pub one : (others : List P) (old new : S) (supply_call : SupplyCall P) → call old supply_call new → IsAside supply_call → match_of supply_call ≡ None → offer_of supply_call ≡ None
+  pub one : (others : List P) (old new : S) (supply_call : SupplyCall P) → call old supply_call new → AsksForMessage supply_call → IsAside supply_call → match_of supply_call ≡ None → offer_of supply_call ≡ None
       → settlement_of supply_call ≡ None → hand_out_of supply_call ≡ None → InTurn [] (places_taken supply_call ++ others) (places_brought supply_call ++ others) old new
-  one others old new supply_call called is_aside no_match no_offer no_settlement no_hand_out = hand others None old new supply_call called is_aside no_match no_offer no_settlement no_hand_out
+  one others old new supply_call called asks is_aside no_match no_offer no_settlement no_hand_out =
+      hand others None old new supply_call called asks is_aside no_match no_offer no_settlement no_hand_out
 
   pub after : {before between behind : List P} (given more : List (P × Held)) (old mid new : S) → InTurn given before between old mid → InTurn more between behind mid new
       → InTurn (given ++ more) before behind old new
@@ -47,6 +54,7 @@ module _ {S P : Type 0} (call : S → SupplyCall P → S → Type 0) where
       record {
         calls = asides.after call given more old mid new these.calls those.calls;
         in_turn = both_in_turn before between behind these.calls.supply_calls those.calls.supply_calls these.in_turn those.in_turn;
+        only = all_of_both AsksForMessage these.calls.supply_calls those.calls.supply_calls these.only those.only;
       }
 
   pub behind : {before between after : List P} (old mid new : S) → InTurn [] before between old mid → InTurn [] between after mid new → InTurn [] before after old new

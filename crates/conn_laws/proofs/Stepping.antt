@@ -1,5 +1,6 @@
 -- A step is a list of calls.
-use Rattle.std.proofs.Common.{◌≡◌, ℕ, ◌-◌, Bool, true, false, List, [], ◌∷◌, ◌++◌, map, filter_map, Option, Some, None, ◌⊎◌, refl, sym, ap, subst, ◌∙◌, append-nil, inl, inr}
+use Rattle.std.proofs.Common.{◌≡◌, ℕ, ◌-◌, Bool, true, false, List, [], ◌∷◌, ◌++◌, map, filter_map, Option, Some, None, ◌⊎◌, refl, sym, ap, subst, ◌∙◌, append-nil, inl, inr, ⊎_elim}
+use Rattle.std.specs.List.{AllByRecursion}
 use Rattle.std.proofs.lemmas.List.{map-append}
 use Rattle.std.proofs.lemmas.List.Elements.{filter_map-append}
 use Rattle.mqtt_packet.specs.declared.packet.ConnectRefusal.{ConnectRefusal}
@@ -39,13 +40,14 @@ use Rattle.conn_engine.specs.declared.phase.ConnPhase.{ConnPhase}
 use Rattle.conn_engine.specs.declared.phase.ConnPhase.TheVariants.{Unconnected, Waiting, Connected, Ended}
 use Rattle.conn_engine.specs.Answering.{DisconnectsIf, Disconnects, Answers}
 use Rattle.conn_engine.specs.Connecting.{has_place}
-use Rattle.conn_laws.specs.Places.{own_places, KeepsPlaces}
-use Rattle.conn_laws.specs.Calls.{offer_of, match_of, settlement_of, hand_out_of, offered, matched, settled, handed, messages_of, fresh_messages, IsToBeOffered, Brings, Confirms, OffersToEach, OffersNone, SettlesOne, SettlesNone, HandsOutLast, MakesAll, StepCalls}
+use Rattle.conn_laws.specs.Places.{own_places, IsMemberWith, KeepsPlaces, KeepsInTurn}
+use Rattle.conn_laws.specs.Calls.{offer_of, match_of, settlement_of, hand_out_of, offered, matched, settled, handed, messages_of, fresh_messages, IsToBeOffered, Brings, Confirms, OffersToEach, OffersNone, SettlesOne, SettlesNone, AsksForMessage, HandsOutLast, MakesAll, StepCalls}
 use Rattle.conn_supply.specs.Publishing.{Offers, AnswersPublish}
 use Rattle.conn_engine.specs.Step.{hearing, IsRefusedIf, WaitsForConnect, AnswersFirst, Concludes, AnswersPacket, AnswersTick, IsHeard, IsKicked, AnswersUnlessKicked, Reacts, Hands, Steps}
 use Rattle.conn_laws.proofs.Replying.{replied_and_sent}
 use Rattle.conn_laws.proofs.KeptPlaces.{kept_by_none, kept_by_one, kept_by_both, kept_beside}
-use Rattle.conn_laws.proofs.Calling.{Plain, HandsInTurn, becomes, beside, still, one, behind, joins, parted, swept, attached, tried_again, handed_out, subscribed_as, unsubscribed_as}
+use Rattle.conn_laws.proofs.HandingOut.{AsksOnlyFor}
+use Rattle.conn_laws.proofs.Calling.{Plain, becomes, beside, still, one, behind, joins, parted, swept, attached, tried_again, handed_out, subscribed_as, unsubscribed_as}
 
 -- nothing more is found after or before
 pub none_behind : {P X : Type 0} (find : SupplyCall P → Option X) (supply_calls others : List (SupplyCall P)) (xs : List X) → filter_map find supply_calls ≡ xs → filter_map find others ≡ [] → filter_map find (supply_calls ++ others) ≡ xs
@@ -61,7 +63,7 @@ hands_both {P} supply_calls others given more these those =
     ap messages_of (filter_map-append hand_out_of supply_calls others) ∙ map-append (λ (h : P × Held). h.1.message) (handed supply_calls) (handed others) ∙ (λ i. these i ++ those i)
 
 -- of no message nothing is handed out
-none_of_none : {P : Type 0} (hand_outs : List (P × Held)) → messages_of hand_outs ≡ [] → hand_outs ≡ []
+pub none_of_none : {P : Type 0} (hand_outs : List (P × Held)) → messages_of hand_outs ≡ [] → hand_outs ≡ []
 none_of_none [] none = refl
 none_of_none (hand_out ∷ hand_outs) none = absurd (let never : hand_out.1.message ∷ messages_of hand_outs ≡ [] = none in cc)
 
@@ -76,30 +78,24 @@ module _ {S P : Type 0} (call : S → SupplyCall P → S → Type 0) where
     pub places : KeepsPlaces (own_places phase) supply_calls after
 
   -- all calls of a step, of which the last hand out
-  record All (given : List Message) (old : S) (number : ℕ) (phase : ConnPhase P) (input : Input) (next : Then) (after : List P) (new : S) : Type 0 where
-    pub calls : Walked given old number phase input next after new
-    pub hands_last : HandsOutLast (own_places phase) calls.supply_calls after
+  record All (given : List Message) (old : S) (number : ℕ) (phase : ConnPhase P) (input : Input) (next : Then) (phase' : ConnPhase P) (new : S) : Type 0 where
+    pub calls : Walked given old number phase input next (own_places phase') new
+    pub hands_last : HandsOutLast phase calls.supply_calls phase'
 
-  -- what is handed out behind the reply, to the place of the membership that there is then
-  record HandsBehind (given : List Message) (between : ConnPhase P) (old : S) (phase : ConnPhase P) (new : S) : Type 0 where
-    pub membership : Membership P
-    pub its : own_places between ≡ place_in membership
-    pub hands : HandsInTurn call given membership (own_places phase) old new
+  -- what is handed out behind the reply, to the place that there is then
+  pub record HandsBehind (given : List Message) (between : ConnPhase P) (old : S) (phase : ConnPhase P) (new : S) : Type 0 where
+    pub calls : Plain call given (own_places between) (own_places phase) old new
+    pub to_one : (handed calls.supply_calls ≡ [])
+        ⊎ ((place place' : P) × (own_places between ≡ place ∷ []) × KeepsInTurn (place ∷ []) calls.supply_calls (place' ∷ []) × AllByRecursion AsksForMessage calls.supply_calls × IsMemberWith phase place')
 
-  none_behind_it : (between : ConnPhase P) → own_places between ≡ [] → (old new : S) (sent : List Packet) (phase : ConnPhase P) → (sent ≡ []) × (phase ≡ between) × (new ≡ old)
-      → HandsBehind (fresh_messages sent) between old phase new
-  none_behind_it between none old new sent phase hands =
+  none_behind_it : (between : ConnPhase P) (old new : S) (sent : List Packet) (phase : ConnPhase P) → (sent ≡ []) × (phase ≡ between) × (new ≡ old) → HandsBehind (fresh_messages sent) between old phase new
+  none_behind_it between old new sent phase hands =
       subst (λ given. HandsBehind given between old phase new) (sym (ap fresh_messages hands.0))
+      (subst (λ after. HandsBehind [] between old after new) (sym hands.1)
       (record {
-        membership = NotMember;
-        its = none;
-        hands =
-            subst (λ places. HandsInTurn call [] NotMember places old new) (sym (ap own_places hands.1 ∙ none))
-            (record {
-              calls = record { supply_calls = []; made = hands.2; match = refl; offers = refl; settles = refl; hands = refl; places = kept_by_none [] };
-              in_turn = refl;
-            });
-      })
+        calls = record { supply_calls = []; made = hands.2; match = refl; offers = refl; settles = refl; hands = refl; places = kept_by_none (own_places between) };
+        to_one = inl refl;
+      }))
 
   -- the places after it, said otherwise
   comes_to : {given : List Message} {old new : S} {number : ℕ} {phase : ConnPhase P} {input : Input} {next : Then} {after after' : List P} → after' ≡ after
@@ -378,37 +374,45 @@ module _ {S P : Type 0} (call : S → SupplyCall P → S → Type 0) where
     reacted Ended input old new number now between reply is = idle old new number _ _ reply.next (still call old new (ap own_places is.0.over) is.1) (λ p b. b, λ e f c. c)
 
     -- what is handed out after it
-    handed_behind : (between : ConnPhase P) (old new : S) (sent : List Packet) (phase : ConnPhase P) → Hands call slot_of old between sent phase new
-        → HandsBehind (fresh_messages sent) between old phase new
-    handed_behind (Unconnected opened) old new sent phase hands = none_behind_it (Unconnected opened) refl old new sent phase hands
-    handed_behind (Waiting request ticks) old new sent phase hands = none_behind_it (Waiting request ticks) refl old new sent phase hands
+    pub handed_behind : (between : ConnPhase P) (old new : S) (sent : List Packet) (phase : ConnPhase P) → Hands call slot_of old between sent phase new → HandsBehind (fresh_messages sent) between old phase new
+    handed_behind (Unconnected opened) old new sent phase hands = none_behind_it (Unconnected opened) old new sent phase hands
+    handed_behind (Waiting request ticks) old new sent phase hands = none_behind_it (Waiting request ticks) old new sent phase hands
     handed_behind (Connected connected) old new sent phase hands =
-        record {
-          membership = connected.session.membership;
-          its = refl;
-          hands = subst (λ places. HandsInTurn call (fresh_messages sent) connected.session.membership places old new) (sym (ap own_places hands.3))
-              (handed_out call old new connected.session.membership connected.session.window sent hands.0 hands.1 hands.2);
-        }
-    handed_behind Ended old new sent phase hands = none_behind_it Ended refl old new sent phase hands
+        let out = handed_out call old new connected.session.membership connected.session.window sent hands.0 hands.1 hands.2 in
+        subst (λ after. HandsBehind (fresh_messages sent) (Connected connected) old after new) (sym hands.3)
+        (record {
+          calls = out.calls;
+          to_one =
+              ⊎_elim
+              (λ (none : handed out.calls.supply_calls ≡ []). inl none)
+              (λ (one : AsksOnlyFor (place_in connected.session.membership) out.calls.supply_calls hands.0). inr (one.0, one.1, one.2, one.4, one.5, one.3)) out.to_one;
+        })
+    handed_behind Ended old new sent phase hands = none_behind_it Ended old new sent phase hands
 
     pub stepped : (old new : S) (number now : ℕ) (phase phase' : ConnPhase P) (input : Input) (packets : List Packet) (next : Then)
         → Steps call slot_of old number phase now input packets next phase' new → StepCalls call old number phase input packets next phase' new
     stepped old new number now phase phase' input packets next steps =
         let before = reacted phase input old steps.mid number now steps.between steps.reply steps.reacts in
         let behind = handed_behind steps.between steps.mid new steps.sent phase' steps.hands in
-        let there = comes_to (sym behind.its) before in
-        let all = subst (λ n. All (fresh_messages steps.sent) old number phase input n (own_places phase') new) (sym steps.followed)
+        let none_earlier = none_of_none (handed before.supply_calls) before.hands in
+        let both = before.supply_calls ++ behind.calls.supply_calls in
+        let all = subst (λ n. All (fresh_messages steps.sent) old number phase input n phase' new) (sym steps.followed)
         (record {
-          calls = further (fresh_messages steps.sent) old steps.mid new number phase input steps.reply.next there behind.hands.calls;
-          hands_last = record {
-            earlier = there.supply_calls;
-            last = behind.hands.calls.supply_calls;
-            both = refl;
-            none_earlier = none_of_none (handed there.supply_calls) there.hands;
-            membership = behind.membership;
-            by_then = there.places;
-            in_turn = behind.hands.in_turn;
-          };
+          calls = further (fresh_messages steps.sent) old steps.mid new number phase input steps.reply.next before behind.calls;
+          hands_last =
+              ⊎_elim
+              (λ (none : handed behind.calls.supply_calls ≡ []).
+              record { earlier = both; last = []; both = sym (append-nil both); none_earlier = none_behind hand_out_of before.supply_calls behind.calls.supply_calls [] none_earlier none; to_one = inl refl })
+              (λ (one : (place place' : P) × (own_places steps.between ≡ place ∷ []) × KeepsInTurn (place ∷ []) behind.calls.supply_calls (place' ∷ []) × AllByRecursion AsksForMessage behind.calls.supply_calls
+              × IsMemberWith phase' place').
+              record {
+                earlier = before.supply_calls;
+                last = behind.calls.supply_calls;
+                both = refl;
+                none_earlier = none_earlier;
+                to_one = inr (one.0, one.1, subst (KeepsPlaces (own_places phase) before.supply_calls) one.2 before.places, one.3, one.4, one.5);
+              })
+              behind.to_one;
         }) in
         record {
           supply_calls = all.calls.supply_calls;

@@ -1,5 +1,6 @@
 -- The calls that a step makes, one after the other: what they offer, what they settle, and what they hand out.
 use Rattle.std.specs.Prelude.{◌≡◌, ◌⊎◌, ℕ, Bool, true, false, List, [], ◌∷◌, ◌++◌, map, filter_map, Option, Some, None, Ok, Contains, ⊤}
+use Rattle.std.specs.List.{AllByRecursion}
 use Rattle.mqtt_packet.specs.declared.packet.Packet.{Packet}
 use Rattle.mqtt_packet.specs.declared.packet.Packet.TheVariants as packets
 use Rattle.mqtt_packet.specs.declared.packet.Publish.{Publish}
@@ -7,8 +8,6 @@ use Rattle.group_jobs.specs.declared.fate.Fate.{Fate}
 use Rattle.group_jobs.specs.declared.message.Message.{Message}
 use Rattle.group_jobs.specs.Stamps.{Held}
 use Rattle.member_window.specs.Contents.{held_of}
-use Rattle.session_desk.specs.Everything.{place_in}
-use Rattle.session_desk.specs.declared.session.Membership.{Membership}
 use Rattle.conn_rules.specs.declared.publishing.PublishAnswer.{PublishAnswer}
 use Rattle.conn_rules.specs.declared.publishing.PublishAnswer.TheVariants as answers
 use Rattle.conn_rules.specs.Publishing.{publish_answer, message_of}
@@ -16,13 +15,13 @@ use Rattle.conn_rules.specs.Acknowledging.{fate_of}
 use Rattle.conn_supply.specs.declared.reply.Then.{Then}
 use Rattle.conn_supply.specs.declared.reply.Then.TheVariants as thens
 use Rattle.conn_supply.specs.SupplyCalls.{SupplyCall}
-use Rattle.conn_supply.specs.SupplyCalls.SupplyCall.{Match, Offer, Take, TakeBack, Settle}
+use Rattle.conn_supply.specs.SupplyCalls.SupplyCall.{Match, MayTake, Offer, Take, TakeBack, Settle}
 use Rattle.conn_engine.specs.declared.input.Input.{Input}
 use Rattle.conn_engine.specs.declared.input.Input.TheVariants as inputs
 use Rattle.conn_engine.specs.declared.phase.ConnPhase.{ConnPhase}
 use Rattle.conn_engine.specs.declared.phase.ConnPhase.TheVariants.{Connected}
 use Rattle.conn_engine.specs.Connecting.{has_place}
-use Rattle.conn_laws.specs.Places.{own_places, KeepsPlaces, KeepsInTurn}
+use Rattle.conn_laws.specs.Places.{own_places, IsMemberWith, KeepsPlaces, KeepsInTurn}
 
 -- what a call offers: to the group of which slot, from which connection, and which message
 abbrev pub offer_of : {P : Type 0} → SupplyCall P → Option (ℕ × ℕ × Message)
@@ -132,16 +131,26 @@ pub record OffersToSome {P : Type 0} (number : ℕ) (input : Input) (supply_call
   pub match : matched supply_calls ≡ (publish.topic, slots ++ others) ∷ []
   pub offers : offered supply_calls ≡ map (λ slot. (slot, number, message_of publish)) slots
 
--- what is handed out is handed out by the last of these calls, to the place of the membership that the session has by then, and each message to that place as the call
--- before left it; and the place that they leave is the one that the connection has after them
-pub record HandsOutLast {P : Type 0} (before : List P) (supply_calls : List (SupplyCall P)) (after : List P) : Type 0 where
+-- a call by which a message is asked for, or whether one may be
+abbrev pub AsksForMessage : {P : Type 0} → SupplyCall P → Type 0
+AsksForMessage (MayTake place answer) = ⊤
+AsksForMessage (Take place place' answer) = ⊤
+AsksForMessage (TakeBack place place' answer) = ⊤
+AsksForMessage _ = ⊥
+
+-- the last calls of a step ask for messages, and do nothing else: the first of them for the place that the connection has by then, each for that place as the call before left it, and
+-- as the last one leaves it the connection has it after the step, as a member
+abbrev pub AsksForOne : {P : Type 0} → ConnPhase P → List (SupplyCall P) → List (SupplyCall P) → ConnPhase P → Type 0
+AsksForOne {P} phase earlier last phase' =
+    (place place' : P) × KeepsPlaces (own_places phase) earlier (place ∷ []) × KeepsInTurn (place ∷ []) last (place' ∷ []) × AllByRecursion AsksForMessage last × IsMemberWith phase' place'
+
+-- what a step hands out it hands out by its last calls, to the one place of its connection
+pub record HandsOutLast {P : Type 0} (phase : ConnPhase P) (supply_calls : List (SupplyCall P)) (phase' : ConnPhase P) : Type 0 where
   pub earlier : List (SupplyCall P)
   pub last : List (SupplyCall P)
   pub both : supply_calls ≡ earlier ++ last
   pub none_earlier : handed earlier ≡ []
-  pub membership : Membership P
-  pub by_then : KeepsPlaces before earlier (place_in membership)
-  pub in_turn : KeepsInTurn (place_in membership) last after
+  pub to_one : (last ≡ []) ⊎ AsksForOne phase earlier last phase'
 
 module _ {S P : Type 0} (call : S → SupplyCall P → S → Type 0) where
   -- these calls are made, one after the other
@@ -161,8 +170,8 @@ module _ {S P : Type 0} (call : S → SupplyCall P → S → Type 0) where
     pub settles : SettlesOne phase input supply_calls ⊎ SettlesNone phase input supply_calls next
     -- what is handed out is sent by this step, each message in a PUBLISH of its own, in their order; and no other is sent for the first time
     pub hands : fresh_messages sent ≡ messages_of (handed supply_calls)
-    -- it is handed to the place that the connection has after this step, one message after the other
-    pub hands_last : HandsOutLast (own_places phase) supply_calls (own_places phase')
+    -- it is handed out last, to the place that the connection has after this step, one message after the other
+    pub hands_last : HandsOutLast phase supply_calls phase'
     -- the connection has the places that it had, but for what these calls brought, took and changed
     pub places : KeepsPlaces (own_places phase) supply_calls (own_places phase')
 

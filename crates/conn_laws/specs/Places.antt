@@ -1,13 +1,14 @@
 -- The places that a connection has: what its calls bring it, and what they take from it.
 use Rattle.std.specs.Prelude.{◌≡◌, ℕ, ◌+◌, List, [], ◌∷◌, ◌++◌, sum_by}
 use Rattle.session_desk.specs.Everything.{free_in, place_in, place_of, places_given}
+use Rattle.session_desk.specs.declared.session.Membership.TheVariants.{Member}
 use Rattle.conn_supply.specs.SupplyCalls.{SupplyCall}
 use Rattle.conn_supply.specs.SupplyCalls.SupplyCall.{Attach, Park, ParkAsIs, Keep, Bury, Sweep, LendPlace, TakePlace, Take, TakeBack, Settle, GiveBack}
 use Rattle.conn_engine.specs.declared.phase.ConnPhase.{ConnPhase}
 use Rattle.conn_engine.specs.declared.phase.ConnPhase.TheVariants.{Unconnected, Waiting, Connected, Ended}
 
 module _ {P : Type 0} where
-  -- the place of the session that a connection has, where that is a member's
+  -- the place of the session that a connection has, where that is a member's, or that of one who leaves
   abbrev pub own_places : ConnPhase P → List P
   own_places (Unconnected opened) = []
   own_places (Waiting request ticks) = []
@@ -45,6 +46,13 @@ module _ {P : Type 0} where
   KeepsPlaces before supply_calls after =
       (measure : P → ℕ) → sum_by measure before + sum_by (λ supply_call. sum_by measure (places_brought supply_call)) supply_calls
       ≡ sum_by measure after + sum_by (λ supply_call. sum_by measure (places_taken supply_call)) supply_calls
+
+  -- the session of a connection is that of a member, with this place
+  abbrev pub IsMemberWith : ConnPhase P → P → Type 0
+  IsMemberWith (Unconnected opened) place = ⊥
+  IsMemberWith (Waiting request ticks) place = ⊥
+  IsMemberWith (Connected connected) place = connected.session.membership ≡ Member place
+  IsMemberWith Ended place = ⊥
 
   -- in turn: each of these calls takes what it takes from the front of the places that there are then, and puts there what it brings; so where there is one place, each call
   -- that changes it has it as the one before left it

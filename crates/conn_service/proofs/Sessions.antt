@@ -11,12 +11,12 @@ use Rattle.client_table.specs.Clients.{ClientState, moment_of, IsGivenUp}
 use Rattle.conn_service.specs.Services.{ServiceState}
 use Rattle.conn_service.specs.Acts.{Act, Enters, Leaves, Asks, Reads, Writes, Steps, Loses, Fails, Starves, IsFull, IsStopped, Stalls, GivesUp, Ends, Others}
 use Rattle.conn_service.specs.Lives.{Does}
-use Rattle.conn_service.specs.Sessions.{TellsItsSession, TellsOfTheLast}
+use Rattle.conn_service.specs.Sessions.{TellsItsSession, TellsOfLastStep}
 
 module _ {S P T : Type 0} (call : S → SupplyCall P → S → Type 0) (begins ends : S → S → Type 0) (visiting : S → Bool) (slot_of : P → ℕ)
     (counts : T → Counts) (given accepted : T → Option (List ℕ)) where
   given_up : (now : ℕ) (client client' : ClientState P) (supply supply' : S) → IsGivenUp call slot_of supply client now inputs.EndOfInput client' supply'
-      → TellsOfTheLast call client.conn.number client.conn.phase supply client'.conn.phase supply'
+      → TellsOfLastStep call client.conn.number client.conn.phase supply client'.conn.phase supply'
   given_up now client client' supply supply' (inl moved) =
       let at = moment_of client now in
       let none = silent call slot_of supply supply' client.conn.number at client.conn.phase client'.conn.phase moved.0.packets moved.0.next moved.1.stepped in

@@ -22,8 +22,8 @@ use Rattle.conn_service.specs.Acts.{Act, Steps, Loses, Fails, IsFull, GivesUp, p
 
 module _ {S P : Type 0} (call : S → SupplyCall P → S → Type 0) where
   -- where a connection is given up, the end of the stream is its last step, which sends nothing: that does the same for its session, or wanted memory
-  abbrev pub TellsOfTheLast : ℕ → ConnPhase P → S → ConnPhase P → S → Type 0
-  TellsOfTheLast number phase supply phase' supply' =
+  abbrev pub TellsOfLastStep : ℕ → ConnPhase P → S → ConnPhase P → S → Type 0
+  TellsOfLastStep number phase supply phase' supply' =
       ((next : Then) × (IsNotEnding phase → Transcribes call supply number phase inputs.EndOfInput [] next phase' supply'))
       ⊎ FailedCalls call supply number phase inputs.EndOfInput supply'
 
@@ -37,8 +37,8 @@ module _ {S P T : Type 0} (call : S → SupplyCall P → S → Type 0) where
   TellsItsSession (Loses now input packets next) old supply new supply' =
       IsNotEnding old.client.conn.phase → Transcribes call supply old.client.conn.number old.client.conn.phase input packets next new.client.conn.phase supply'
   TellsItsSession (Fails now input) old supply new supply' = FailedCalls call supply old.client.conn.number old.client.conn.phase input supply'
-  TellsItsSession (IsFull now) old supply new supply' = TellsOfTheLast call old.client.conn.number old.client.conn.phase supply new.client.conn.phase supply'
-  TellsItsSession (GivesUp now) old supply new supply' = TellsOfTheLast call old.client.conn.number old.client.conn.phase supply new.client.conn.phase supply'
+  TellsItsSession (IsFull now) old supply new supply' = TellsOfLastStep call old.client.conn.number old.client.conn.phase supply new.client.conn.phase supply'
+  TellsItsSession (GivesUp now) old supply new supply' = TellsOfLastStep call old.client.conn.number old.client.conn.phase supply new.client.conn.phase supply'
   TellsItsSession _ old supply new supply' = ⊤
 
 -- a session was handed out to the connection of this number

@@ -10,7 +10,7 @@ use Rattle.group_queue.specs.declared.witness.Nobody.{Nobody}
 use Rattle.tcp_edge.specs.Sockets.{SocketState}
 use Rattle.mio.specs.declared.net.stream.TcpStream.{TcpStream}
 use Rattle.worker_connections.specs.declared.served.ServedCounts.{ServedCounts}
-use Rattle.worker_connections.specs.Polling.{PollerCall}
+use Rattle.worker_connections.specs.PollerCalls.{PollerCall}
 use Rattle.broker_groups.specs.Answers.{all_seen}
 use Rattle.threaded_broker.specs.Callers.{DeskCallerState}
 use Rattle.threaded_broker.specs.Headline.{KeepsTheHeadline}
@@ -40,8 +40,8 @@ pub record AreReports (capacity workers max_inflight : ℕ) (given : List Share)
   pub after : DeskCallerState
   pub came : List Connection
   pub served : List ServedCounts
-  pub polled : List (Option (List (PollerCall Connection)))
-  pub headline : KeepsTheHeadline group all_seen (λ (connection : Connection). connection.counts) unknown unknown workers max_inflight came before after shares answers strangers served polled
+  pub poller_calls : List (Option (List (PollerCall Connection)))
+  pub headline : KeepsTheHeadline group all_seen (λ (connection : Connection). connection.counts) unknown unknown workers max_inflight came before after shares answers strangers served poller_calls
   pub bound : All (IsBoundIn shares) given
   pub lines : text ≡ lines_of shares (map report_of answers)
 

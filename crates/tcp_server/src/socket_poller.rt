@@ -24,7 +24,7 @@ impl<'a, R: SystemClock> SocketPoller<'a, R> {
 }
 
 impl<'a, R: SystemClock> Poller<Socket<TcpStream>> for SocketPoller<'a, R> {
-    ghost polled = { λ _. None };
+    ghost poller_calls = { λ _. None };
 
     fn register(&mut self, transport: &mut Socket<TcpStream>) -> Option<usize> {
         self.reactor.register(transport).ok()

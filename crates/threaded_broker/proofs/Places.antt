@@ -31,7 +31,7 @@ use Rattle.shared_supply.specs.Endings.{IsAllBehind}
 use Rattle.shared_supply.specs.Workers.{Worker}
 use Rattle.worker_connections.specs.declared.served.ServedCounts.{ServedCounts}
 use Rattle.worker_connections.specs.Chains.{IsWholeRun, Run}
-use Rattle.worker_connections.specs.Polling.{PollerCall}
+use Rattle.worker_connections.specs.PollerCalls.{PollerCall}
 use Rattle.worker_connections.specs.RunCalls.{AreCallsOf}
 use Rattle.worker_connections.proofs.RunCalls.{calls_of}
 use Rattle.final_report.specs.Brokers.{KeptItsPromisesBehind}
@@ -292,11 +292,11 @@ module _ {T : Type 0} (group : ℕ → GroupId) (seen : Sights) (counts : T → 
 
   -- so a run keeps the headline
   pub keeps_headline : {W : Type 0} (workers max_inflight : ℕ) (came : List T) (before after : DeskCallerState) (shares : List Share) (answers : List (Result Report (Unfinished W))) (strangers : List Held)
-      (served : List ServedCounts) (polled : List (Option (List (PollerCall T)))) (ports : List (List PortState)) → length ports ≡ workers
-      → RunsUntilClosed group seen counts given accepted max_inflight came before after shares ports served polled → IsEachOnce after.own (length after.calls)
+      (served : List ServedCounts) (poller_calls : List (Option (List (PollerCall T)))) (ports : List (List PortState)) → length ports ≡ workers
+      → RunsUntilClosed group seen counts given accepted max_inflight came before after shares ports served poller_calls → IsEachOnce after.own (length after.calls)
       → KeptItsPromisesBehind group after.calls ports answers strangers
-      → KeepsTheHeadline group seen counts given accepted workers max_inflight came before after shares answers strangers served polled
-  keeps_headline workers max_inflight came before after shares answers strangers served polled ports many run once promises =
+      → KeepsTheHeadline group seen counts given accepted workers max_inflight came before after shares answers strangers served poller_calls
+  keeps_headline workers max_inflight came before after shares answers strangers served poller_calls ports many run once promises =
       let asked = calls_of_all run.workers.runs run.workers.whole in
       record {
         ports = ports;

@@ -34,7 +34,7 @@ use Rattle.shared_supply.specs.Workers.{Worker, Begins, Leaves, is_visiting}
 use Rattle.worker_connections.specs.Arrivals.{opening_at}
 use Rattle.worker_connections.specs.Cells.{Opens}
 use Rattle.worker_connections.specs.Chains.{Deed, Opened, Closed, Allowed, MadeRound, Passed, Called, Notified, NotifiedAll, Waited, IsWholeRun, LeavesCell, Makes, Run, RunState}
-use Rattle.worker_connections.specs.RunCalls.{AreOfAct, AreOfActs, AreOfDeed, AreOfDeeds, AreOfFailure, AreOfStep, AreOfTheLast, AreCallsOf}
+use Rattle.worker_connections.specs.RunCalls.{AreOfAct, AreOfActs, AreOfDeed, AreOfDeeds, AreOfFailure, AreOfStep, AreOfLastStep, AreCallsOf}
 use Rattle.final_report.specs.DeskPlaces.{worth_if, places_in, places_out}
 use Rattle.threaded_broker.specs.Callers.{DeskCallerState}
 use Rattle.threaded_broker.proofs.Balance.{AreWithin, Balances, Gains, all_called, all_in, all_lost, all_out, balance_still, own_sum, places_lost}
@@ -132,10 +132,10 @@ module _ (measure : PlaceState → ℕ) where
           with_calls calls step.supply_calls old new supply supply' asked.1
           (step_balances step.supply_calls supply supply' (own_places (phase_of old)) (own_places (phase_of new)) step.made step.places within)
 
-      the_last : (calls : List (SupplyCall PlaceState)) (old new : ServiceState PlaceState T) (supply supply' : Worker) → AreOfTheLast group seen old supply calls new supply' → AreWithin supply.desk
+      the_last : (calls : List (SupplyCall PlaceState)) (old new : ServiceState PlaceState T) (supply supply' : Worker) → AreOfLastStep group seen old supply calls new supply' → AreWithin supply.desk
           → BalancesService old supply calls new supply'
-      the_last calls old new supply supply' (inl asked) within = stepped inputs.EndOfInput [] asked.0 calls old new supply supply' asked.1 within
-      the_last calls old new supply supply' (inr asked) within = failed inputs.EndOfInput calls old new supply supply' asked within
+      the_last calls old new supply supply' (none, inl asked) within = stepped inputs.EndOfInput [] asked.0 calls old new supply supply' asked.1 within
+      the_last calls old new supply supply' (none, inr asked) within = failed inputs.EndOfInput calls old new supply supply' asked within
 
       -- one at the transport
       at_edge : (calls : List (SupplyCall PlaceState)) (old new : ServiceState PlaceState T) (supply supply' : Worker) → calls ≡ [] → supply' ≡ supply → new.client ≡ old.client → AreWithin supply.desk

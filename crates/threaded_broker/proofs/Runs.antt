@@ -19,7 +19,7 @@ use Rattle.worker_connections.specs.declared.served.ServedCounts.{ServedCounts}
 use Rattle.worker_connections.specs.Arrivals.{ArrivedState}
 use Rattle.worker_connections.specs.Chains.{IsWholeRun, KeepsReceiveMaximum, Run}
 use Rattle.worker_connections.specs.Numbers.{KeepsNumbers}
-use Rattle.worker_connections.specs.Polling.{PollerCall}
+use Rattle.worker_connections.specs.PollerCalls.{PollerCall}
 use Rattle.worker_connections.specs.Publishing.{IsPublishedBy}
 use Rattle.worker_connections.specs.Sessions.{KeepsSessions}
 use Rattle.worker_connections.proofs.Publishing.{all_published}
@@ -82,10 +82,10 @@ module _ {T : Type 0} (group : ℕ → GroupId) (seen : Sights) (counts : T → 
 
   -- a broker that was served kept to it
   pub within : (limit workers : ℕ) (came : List T) (before after : DeskCallerState) (routes shares : List Share) (ports : List (List PortState)) (callers : List DeskCallerState) (served : List ServedCounts)
-      (polled : List (Option (List (PollerCall T)))) → shares ≡ take most_routes routes → AreServed group seen counts given accepted (arrivals limit came) routes ports callers served polled
+      (poller_calls : List (Option (List (PollerCall T)))) → shares ≡ take most_routes routes → AreServed group seen counts given accepted (arrivals limit came) routes ports callers served poller_calls
       → (places : List PlaceState) × AreNewPlacesOf group places × HasPutIn before places → HasTakenIn before callers after → length callers ≡ workers → before.parts + workers ≡ all_parts
-      → RunsUntilClosed group seen counts given accepted limit came before after shares ports served polled
-  within limit workers came before after routes shares ports callers served polled shares_are ran opened taken_in count right =
+      → RunsUntilClosed group seen counts given accepted limit came before after shares ports served poller_calls
+  within limit workers came before after routes shares ports callers served poller_calls shares_are ran opened taken_in count right =
       let parts = ap (sum_by (λ (caller : DeskCallerState). caller.parts)) ran.callers_are ∙ parts_of_all ran.runs ran.one_part in
       let many = sym (ap length ran.callers_are ∙ length-map ran.runs (λ (run : Run T). run.last.supply.desk)) in
       record {
@@ -104,10 +104,10 @@ module _ {T : Type 0} (group : ℕ → GroupId) (seen : Sights) (counts : T → 
       }
 
   -- more calls are known of the desk
-  pub known_longer : (limit : ℕ) (came : List T) (before mid after : DeskCallerState) (shares : List Share) (ports : List (List PortState)) (served : List ServedCounts) (polled : List (Option (List (PollerCall T))))
-      → IsPrefix mid.calls after.calls → after ≡ record mid { calls = after.calls } → RunsUntilClosed group seen counts given accepted limit came before mid shares ports served polled
-      → RunsUntilClosed group seen counts given accepted limit came before after shares ports served polled
-  known_longer limit came before mid after shares ports served polled longer same run = record {
+  pub known_longer : (limit : ℕ) (came : List T) (before mid after : DeskCallerState) (shares : List Share) (ports : List (List PortState)) (served : List ServedCounts) (poller_calls : List (Option (List (PollerCall T))))
+      → IsPrefix mid.calls after.calls → after ≡ record mid { calls = after.calls } → RunsUntilClosed group seen counts given accepted limit came before mid shares ports served poller_calls
+      → RunsUntilClosed group seen counts given accepted limit came before after shares ports served poller_calls
+  known_longer limit came before mid after shares ports served poller_calls longer same run = record {
     routes = run.routes;
     shares_are = run.shares_are;
     callers = run.callers;

@@ -16,7 +16,7 @@ use Rattle.conn_supply.specs.SupplyCalls.{SupplyCall}
 use Rattle.worker_connections.specs.declared.served.ServedCounts.{ServedCounts}
 use Rattle.worker_connections.specs.Chains.{KeepsReceiveMaximum}
 use Rattle.worker_connections.specs.Numbers.{KeepsNumbers}
-use Rattle.worker_connections.specs.Polling.{PollerCall}
+use Rattle.worker_connections.specs.PollerCalls.{PollerCall}
 use Rattle.worker_connections.specs.Publishing.{IsPublishedBy}
 use Rattle.worker_connections.specs.RunCalls.{AreCallsOf}
 use Rattle.worker_connections.specs.Sessions.{KeepsSessions}
@@ -34,12 +34,12 @@ module _ {T : Type 0} (group : ℕ → GroupId) (seen : Sights) (counts : T → 
   -- stepped, each offered to the groups that match and answered as these took it (3.3.4); each asked the desk under the number of its cell; and at each act what is handed out is what is sent, and what is settled is what a
   -- PUBACK came for (4.4). The groups that match are those of these shares, slot by slot, as far as each worker knew them
   pub record RunsUntilClosed (max_inflight : ℕ) (came : List T) (before after : DeskCallerState) (shares : List Share) (ports : List (List PortState)) (served : List ServedCounts)
-      (polled : List (Option (List (PollerCall T)))) : Type 0 where
+      (poller_calls : List (Option (List (PollerCall T)))) : Type 0 where
     pub routes : List Share
     pub shares_are : shares ≡ take most_routes routes
     pub callers : List DeskCallerState
     pub opened : (places : List PlaceState) × AreNewPlacesOf group places × HasPutIn before places
-    pub workers : AreServed group seen counts given accepted (arrivals max_inflight came) routes ports callers served polled
+    pub workers : AreServed group seen counts given accepted (arrivals max_inflight came) routes ports callers served poller_calls
     pub taken_in : HasTakenIn before callers after
     pub whole_right : after.parts ≡ all_parts
     pub within_receive_maximum : AllByRecursion (KeepsReceiveMaximum group seen counts given accepted max_inflight) workers.runs
@@ -58,10 +58,10 @@ module _ {T : Type 0} (group : ℕ → GroupId) (seen : Sights) (counts : T → 
   -- place; the messages that the calls of a step hand out are those of its PUBLISH packets with DUP 0, in their order, and what they settle is what the PUBACK came for (`calls_are`). The report of a slot is that of the share that is told at its place: to its group
   -- each worker offered what matches that share, from when it knew it. That nothing is handed out after close is said by the token of the drained gate
   pub record KeepsTheHeadline {W : Type 0} (workers max_inflight : ℕ) (came : List T) (before after : DeskCallerState) (shares : List Share) (answers : List (Result Report (Unfinished W)))
-      (strangers : List Held) (served : List ServedCounts) (polled : List (Option (List (PollerCall T)))) : Type 0 where
+      (strangers : List Held) (served : List ServedCounts) (poller_calls : List (Option (List (PollerCall T)))) : Type 0 where
     pub ports : List (List PortState)
     pub every_worker : length ports ≡ workers
-    pub run : RunsUntilClosed max_inflight came before after shares ports served polled
+    pub run : RunsUntilClosed max_inflight came before after shares ports served poller_calls
     pub each_call_once : IsEachOnce after.own (length after.calls)
     pub promises : KeptItsPromisesBehind group after.calls ports answers strangers
     pub calls : List (List (SupplyCall PlaceState))

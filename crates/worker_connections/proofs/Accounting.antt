@@ -10,7 +10,7 @@ use Rattle.worker_connections.specs.declared.cell_outcome.CellOutcome.TheVariant
 use Rattle.worker_connections.specs.declared.served.ServedCounts.{ServedCounts}
 use Rattle.worker_connections.specs.Arrivals.{ArrivedState}
 use Rattle.worker_connections.specs.Counting.{counted, counted_behind, none_served}
-use Rattle.worker_connections.specs.Polling.{PollerCall}
+use Rattle.worker_connections.specs.PollerCalls.{PollerCall}
 use Rattle.worker_connections.specs.Serving.{AreCounted, IsAccounted, TakesIn}
 
 abbrev Table : Type 0 → Type 0
@@ -33,12 +33,12 @@ module _ {T : Type 0} where
 
   -- one more was received, and is open or counted
   pub came_one : (counts : T → Counts) (given accepted : T → Option (List ℕ)) (first now : ℕ) (arrived : ArrivedState T) (received received' : ℕ) (cells cells' : Table T)
-      (served served' : ServedCounts) (polled polled' : Option (List (PollerCall T))) → received' ≡ received + 1 → IsAccounted received cells served
-      → TakesIn counts given accepted first now arrived cells served polled cells' served' polled'
+      (served served' : ServedCounts) (poller_calls poller_calls' : Option (List (PollerCall T))) → received' ≡ received + 1 → IsAccounted received cells served
+      → TakesIn counts given accepted first now arrived cells served poller_calls cells' served' poller_calls'
       → IsAccounted received' cells' served'
-  came_one counts given accepted first now arrived received received' cells cells' served served' polled polled' more old (inl opened) =
+  came_one counts given accepted first now arrived received received' cells cells' served served' poller_calls poller_calls' more old (inl opened) =
       record { endings = old.endings; counted = opened.2 ∙ old.counted; all = omega (arith, more, old.all, opened.1.3) }
-  came_one counts given accepted first now arrived received received' cells cells' served served' polled polled' more old (inr refused) =
+  came_one counts given accepted first now arrived received received' cells cells' served served' poller_calls poller_calls' more old (inr refused) =
       record { endings = Memory ∷ old.endings; counted = refused.1 ∙ ap (counted Memory) old.counted; all = omega (arith, more, old.all, ap occupied refused.0.0) }
 
   -- where no connection is open, all that were received have ended

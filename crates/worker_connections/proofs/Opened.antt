@@ -8,7 +8,7 @@ use Rattle.worker_connections.specs.Serving.{TellsCell}
 use Rattle.worker_connections.specs.declared.admission.Admission.TheVariants.{Opened}
 
 has_one : {T : Type 0} (number : ℕ) (opening : Opening) (transport : T) (after : Option (ServiceState PlaceState T)) → IsOpened number opening transport after → after ≢ None
-has_one number opening transport None is = absurd is
+has_one number opening transport None is none = absurd is
 has_one number opening transport (Some service) is none = cc
 
 pub tells_cell : {T : Type 0} (old new : List (Option (ServiceState PlaceState T))) (cell number : ℕ) (opening : Opening) (transport : T) → InCell old cell (Opens number opening transport) new

@@ -231,7 +231,7 @@ module _ (group : ℕ → GroupId) (seen : Sights) where
       → StepsTo (Calls group seen) slot_of old number phase now (inputs.Packet (packets.Publish publish)) these next phase' new
       → PublishesAt group seen (inputs.Packet (packets.Publish publish)) these (publisher_of old) (publisher_of new)
   of_publish old new number now phase phase' publish these next steps =
-      let handed = plain steps.mid new (handed_behind (Calls group seen) slot_of steps.between steps.mid new steps.sent phase' steps.hands) in
+      let handed = plain steps.mid new (handed_behind (Calls group seen) slot_of steps.between steps.mid new steps.sent phase' steps.hands).calls in
       ⊎_elim
       (λ (it : (identifier : ℕ) × (publish_answer publish ≡ answers.Offer identifier) × (taken : ℕ)
       × PutsInto group seen old.ports (message_of publish) (slots_matched (publisher_of old) publish) taken steps.mid.ports

@@ -9,8 +9,9 @@ use Rattle.conn_supply.specs.SupplyCalls.SupplyCall.{Kicked}
 use Rattle.conn_engine.specs.declared.input.Input.TheVariants as inputs
 use Rattle.conn_engine.specs.Step.{Steps as ConnSteps}
 use Rattle.conn_laws.proofs.Ended.{silent}
-use Rattle.conn_laws.proofs.Failing.{failed}
-use Rattle.conn_laws.proofs.Stepping.{stepped}
+use Rattle.conn_laws.specs.Calls.{handed}
+use Rattle.conn_laws.proofs.Failing.{failed, failed_at_the_end}
+use Rattle.conn_laws.proofs.Stepping.{none_of_none, stepped}
 use Rattle.client_table.specs.Clients.{IsGivenUp, moment_of}
 use Rattle.conn_service.specs.Acts.{Act, Enters, Leaves as Left, Asks, Reads, Writes, Steps, Loses, Fails, Starves, IsFull, IsStopped, Stalls, GivesUp, Ends, Others}
 use Rattle.conn_service.specs.Lives.{Does, DoesAll}
@@ -20,23 +21,23 @@ use Rattle.shared_supply.specs.Calls.{Calls}
 use Rattle.shared_supply.specs.Workers.{Worker, Begins, Leaves, is_visiting}
 use Rattle.worker_connections.specs.Chains.{Deed, Opened, Closed, Allowed, MadeRound, Passed, Called, Notified, NotifiedAll, Waited, Makes, MakesAll, IsRun, Run, RunState}
 use Rattle.worker_connections.proofs.Publishing.{no_others}
-use Rattle.worker_connections.specs.RunCalls.{AreOfAct, AreOfActs, AreOfDeed, AreOfDeeds, AreOfTheLast, AreCallsOf}
+use Rattle.worker_connections.specs.RunCalls.{AreOfAct, AreOfActs, AreOfDeed, AreOfDeeds, AreOfLastStep, AreCallsOf}
 
 abbrev slot_of : PlaceState → ℕ
 slot_of place = place.group
 
 module _ {T : Type 0} (group : ℕ → GroupId) (seen : Sights) (counts : T → Counts) (given accepted : T → Option (List ℕ)) where
   the_last : (at : ℕ) (old new : ServiceState PlaceState T) (supply supply' : Worker) → IsGivenUp (Calls group seen) slot_of supply old.client at inputs.EndOfInput new.client supply'
-      → (calls : List (SupplyCall PlaceState)) × AreOfTheLast group seen old supply calls new supply'
+      → (calls : List (SupplyCall PlaceState)) × AreOfLastStep group seen old supply calls new supply'
   the_last at old new supply supply' (inl moved) =
       let now = moment_of old.client at in
       let none = silent (Calls group seen) slot_of supply supply' old.client.conn.number now old.client.conn.phase new.client.conn.phase moved.0.packets moved.0.next moved.1.stepped in
       let steps = subst (λ packets. ConnSteps (Calls group seen) slot_of supply old.client.conn.number old.client.conn.phase now inputs.EndOfInput packets moved.0.next new.client.conn.phase supply') none moved.1.stepped in
       let step = stepped (Calls group seen) slot_of supply supply' old.client.conn.number now old.client.conn.phase new.client.conn.phase inputs.EndOfInput [] moved.0.next steps in
-      (step.supply_calls, inl (moved.0.next, (step, refl)))
+      (step.supply_calls, (none_of_none (handed step.supply_calls) (sym step.hands), inl (moved.0.next, (step, refl))))
   the_last at old new supply supply' (inr fails) =
-      let step = failed (Calls group seen) slot_of supply supply' old.client.conn.number (moment_of old.client at) old.client.conn.phase inputs.EndOfInput fails.failed in
-      (step.supply_calls, inr (step, refl, fails.over))
+      let step = failed_at_the_end (Calls group seen) slot_of supply supply' old.client.conn.number (moment_of old.client at) old.client.conn.phase fails.failed in
+      (step.0.supply_calls, (step.1, inr (step.0, refl, fails.over)))
 
   acted : (act : Act) (old new : ServiceState PlaceState T) (supply supply' : Worker) (now : ℕ) (from to : Stand)
       → Does (Calls group seen) Begins Leaves is_visiting slot_of counts given accepted act old supply new supply' → Treads now from act to

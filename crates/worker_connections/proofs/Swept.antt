@@ -17,7 +17,7 @@ use Rattle.worker_connections.specs.declared.sweeps.Sweeps.{Sweeps}
 use Rattle.group_queue.specs.Places.{PlaceState}
 use Rattle.worker_connections.specs.declared.served.ServedCounts.{ServedCounts}
 use Rattle.worker_connections.specs.Arrivals.{ArrivedState, opening_at}
-use Rattle.worker_connections.specs.Polling.{PollerCall}
+use Rattle.worker_connections.specs.PollerCalls.{PollerCall}
 use Rattle.worker_connections.specs.Serving.{TakesIn}
 use Rattle.worker_connections.specs.Sweeping.{AreSwept, Begins, IfFreshSince, Notes, looked}
 
@@ -152,8 +152,8 @@ module _ {S P T : Type 0} (call : S → SupplyCall P → S → Type 0) (begins e
 
 -- after one that came
 pub came_one : {T : Type 0} (counts : T → Counts) (given accepted : T → Option (List ℕ)) (arrived : ArrivedState T) (cells cells' : List (Option (ServiceState PlaceState T)))
-    (served served' : ServedCounts) (polled polled' : Option (List (PollerCall T))) (first : ℕ) (sweeps : Sweeps) → AreSwept sweeps cells
-    → TakesIn counts given accepted first sweeps.latest arrived cells served polled cells' served' polled' → AreSwept sweeps cells'
-came_one counts given accepted arrived cells cells' served served' polled polled' first sweeps are (inl opened) =
+    (served served' : ServedCounts) (poller_calls poller_calls' : Option (List (PollerCall T))) (first : ℕ) (sweeps : Sweeps) → AreSwept sweeps cells
+    → TakesIn counts given accepted first sweeps.latest arrived cells served poller_calls cells' served' poller_calls' → AreSwept sweeps cells'
+came_one counts given accepted arrived cells cells' served served' poller_calls poller_calls' first sweeps are (inl opened) =
     opened_one cells cells' opened.0 (first + opened.0) (opening_at sweeps.latest arrived) opened.1.0 sweeps refl are opened.1.2
-came_one counts given accepted arrived cells cells' served served' polled polled' first sweeps are (inr refused) = subst (λ those. AreSwept sweeps those) (sym refused.0.0) are
+came_one counts given accepted arrived cells cells' served served' poller_calls poller_calls' first sweeps are (inr refused) = subst (λ those. AreSwept sweeps those) (sym refused.0.0) are

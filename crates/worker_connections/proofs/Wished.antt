@@ -18,7 +18,7 @@ use Rattle.worker_bells.specs.declared.members.Interest.{Interest}
 use Rattle.worker_connections.specs.declared.served.ServedCounts.{ServedCounts}
 use Rattle.worker_connections.specs.Arrivals.{ArrivedState, opening_at}
 use Rattle.worker_connections.specs.Members.{AreWished, HasTaker, TakesIn}
-use Rattle.worker_connections.specs.Polling.{PollerCall}
+use Rattle.worker_connections.specs.PollerCalls.{PollerCall}
 use Rattle.worker_connections.specs.Serving.{TakesIn as TakesInOne}
 use Rattle.worker_bells.specs.Wishing.{IsWished}
 use Rattle.worker_bells.proofs.Places.{others_stay, put_there}
@@ -88,13 +88,13 @@ module _ {T : Type 0} where
 
   -- nor would one that came
   pub wished_came : (counts : T → Counts) (given accepted : T → Option (List ℕ)) (arrived : ArrivedState T) (cells cells' : List (Option (ServiceState PlaceState T)))
-      (served served' : ServedCounts) (polled polled' : Option (List (PollerCall T))) (interests : List Interest) (first now : ℕ) → length interests ≡ length cells
-      → AreWished cells interests → TakesInOne counts given accepted first now arrived cells served polled cells' served' polled' → (length interests ≡ length cells') × AreWished cells' interests
-  wished_came counts given accepted arrived cells cells' served served' polled polled' interests first now long are (inl opened) = (
+      (served served' : ServedCounts) (poller_calls poller_calls' : Option (List (PollerCall T))) (interests : List Interest) (first now : ℕ) → length interests ≡ length cells
+      → AreWished cells interests → TakesInOne counts given accepted first now arrived cells served poller_calls cells' served' poller_calls' → (length interests ≡ length cells') × AreWished cells' interests
+  wished_came counts given accepted arrived cells cells' served served' poller_calls poller_calls' interests first now long are (inl opened) = (
     omega (arith, long, ap length opened.1.2.is, length-set cells opened.0 opened.1.2.after),
     wished_opened cells cells' interests opened.0 (first + opened.0) (opening_at now arrived) opened.1.0 are opened.1.2,
   )
-  wished_came counts given accepted arrived cells cells' served served' polled polled' interests first now long are (inr refused) =
+  wished_came counts given accepted arrived cells cells' served served' poller_calls poller_calls' interests first now long are (inr refused) =
       subst (λ those. (length interests ≡ length those) × AreWished those interests) (sym refused.0.0) (long, are)
 
   -- after a round the wish of the connection in its cell is noted

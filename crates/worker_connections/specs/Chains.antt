@@ -19,7 +19,7 @@ use Rattle.shared_supply.specs.Waking.{KeepsAtMost, no_wakes, one_called}
 use Rattle.shared_supply.specs.Workers.{Worker, Begins, Leaves, is_visiting}
 use Rattle.worker_connections.specs.declared.served.ServedCounts.{ServedCounts}
 use Rattle.worker_connections.specs.Arrivals.{ArrivedState, IsWatched, opening_at}
-use Rattle.worker_connections.specs.Polling.{PollerCall, Close, Wait, HasNoCalls, and_called, closed_if}
+use Rattle.worker_connections.specs.PollerCalls.{PollerCall, Close, Wait, HasNoCalls, with_call, closed_if}
 use Rattle.worker_connections.specs.Counting.{counted, counted_if, none_served}
 use Rattle.worker_connections.specs.Sweeping.{AreTicked, sweep_period}
 
@@ -45,15 +45,15 @@ pub data Deed (T : Type 0) : Type 0 where
   Waited : (at_most now : ℕ) → Deed T
 
 -- what a worker has: the number of the connection in its first cell, from which on those in the others have theirs; what it asks, its connections, those that came, in order, how
--- connections ended, and the calls of its poller by which it closed transports and waited, in order; `None` where its poller does not tell them. Its moment is the one that its
--- latest wait told, or that of an earlier one where the clock was set back
+-- connections ended, and the calls of its poller by which it closed transports and waited, in order; `None` where its poller does not tell them. Its moment is the
+-- latest that a wait told, and 0 before the first
 pub record RunState (T : Type 0) : Type 0 where
   pub first : ℕ
   pub supply : Worker
   pub cells : List (Option (ServiceState PlaceState T))
   pub received : List (ArrivedState T)
   pub served : ServedCounts
-  pub polled : Option (List (PollerCall T))
+  pub poller_calls : Option (List (PollerCall T))
   pub latest : ℕ
 
 -- the run of a worker: from its first state to its last one
@@ -69,7 +69,7 @@ pub record IsFirst {T : Type 0} (state : RunState T) : Type 0 where
   pub none_came : state.received ≡ []
   pub none_ended : state.served ≡ none_served
   pub none_waits : state.supply.wakes ≡ no_wakes
-  pub none_polled : HasNoCalls state.polled
+  pub no_poller_calls : HasNoCalls state.poller_calls
   pub none_sent : AreUnsent state.supply.ports
   pub none_called : state.supply.desk.own ≡ []
   pub not_looked : state.latest ≡ 0
@@ -92,15 +92,15 @@ module _ {T : Type 0} (group : ℕ → GroupId) (seen : Sights) (counts : T → 
       Rounds (Calls group seen) Begins Leaves is_visiting (λ (p : PlaceState). p.group) counts given accepted now service supply behind supply'
 
   -- the connection in a cell goes on by a round of these acts; where that ends it, its transport is closed as the round left it
-  pub record GoesOn (now : ℕ) (acts : List Act) (how : Option Served) (before : Option (ServiceState PlaceState T)) (supply : Worker) (polled : Option (List (PollerCall T)))
-      (after : Option (ServiceState PlaceState T)) (supply' : Worker) (polled' : Option (List (PollerCall T))) : Type 0 where
+  pub record GoesOn (now : ℕ) (acts : List Act) (how : Option Served) (before : Option (ServiceState PlaceState T)) (supply : Worker) (poller_calls : Option (List (PollerCall T)))
+      (after : Option (ServiceState PlaceState T)) (supply' : Worker) (poller_calls' : Option (List (PollerCall T))) : Type 0 where
     pub service : ServiceState PlaceState T
     pub here : before ≡ Some service
     pub behind : ServiceState PlaceState T
     pub round : RoundsOf now service supply behind supply'
     pub acts_are : acts ≡ round.led.acts
     pub leaves : LeavesCell how behind after
-    pub closes : polled' ≡ closed_if how behind.transport polled
+    pub closes : poller_calls' ≡ closed_if how behind.transport poller_calls
 
   -- what a deed makes of the worker. What it does at a moment it does at its own one, and that changes only where it waited. **It waits only where it owes
   -- nothing**, and no longer than 50 milliseconds
@@ -110,18 +110,18 @@ module _ {T : Type 0} (group : ℕ → GroupId) (seen : Sights) (counts : T → 
       × (new ≡ record old { cells = new.cells; received = old.received ++ arrived ∷ [] }) × (now ≡ old.latest)
   Makes (Closed arrived) old new =
       (watched : T) × IsWatched counts given accepted arrived.transport watched
-      × (new ≡ record old { received = old.received ++ arrived ∷ []; served = counted Memory old.served; polled = and_called (Close watched) old.polled })
+      × (new ≡ record old { received = old.received ++ arrived ∷ []; served = counted Memory old.served; poller_calls = with_call (Close watched) old.poller_calls })
   Makes (Allowed most) old new = new ≡ record old { supply = record old.supply { allowance = most } }
   Makes (MadeRound cell now acts how) old new =
-      InCell old.cells cell (λ before after. GoesOn now acts how before old.supply old.polled after new.supply new.polled) new.cells
-      × (new ≡ record old { supply = new.supply; cells = new.cells; served = counted_if how old.served; polled = new.polled }) × (now ≡ old.latest)
+      InCell old.cells cell (λ before after. GoesOn now acts how before old.supply old.poller_calls after new.supply new.poller_calls) new.cells
+      × (new ≡ record old { supply = new.supply; cells = new.cells; served = counted_if how old.served; poller_calls = new.poller_calls }) × (now ≡ old.latest)
   Makes (Passed cell) old new =
       InCell old.cells cell (λ before after. (before ≡ None) × (after ≡ None)) new.cells × (new ≡ record old { cells = new.cells })
   Makes (Called slot) old new = new ≡ record old { supply = record old.supply { wakes = one_called slot old.supply.wakes } }
   Makes (Notified most others) old new =
       KeepsAtMost most others old.supply.wakes new.supply.wakes × (new ≡ record old { supply = record old.supply { wakes = new.supply.wakes } })
   Makes NotifiedAll old new = new ≡ record old { supply = record old.supply { wakes = no_wakes } }
-  Makes (Waited at_most now) old new = OwesNothing old × (at_most ≤ sweep_period) × (new ≡ record old { polled = and_called (Wait at_most now) old.polled; latest = max old.latest now })
+  Makes (Waited at_most now) old new = OwesNothing old × (at_most ≤ sweep_period) × (new ≡ record old { poller_calls = with_call (Wait at_most now) old.poller_calls; latest = max old.latest now })
 
   -- these deeds, one after the other
   abbrev pub MakesAll : List (Deed T) → RunState T → RunState T → Type 0

@@ -1,6 +1,6 @@
 pub mod Arrivals
 pub mod Chains
-pub mod Polling
+pub mod PollerCalls
 pub mod Counting
 pub mod Handles
 pub mod Lives

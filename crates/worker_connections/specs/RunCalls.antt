@@ -11,7 +11,7 @@ use Rattle.conn_supply.specs.SupplyCalls.SupplyCall.{Kicked}
 use Rattle.conn_engine.specs.declared.input.Input.{Input}
 use Rattle.conn_engine.specs.declared.input.Input.TheVariants as inputs
 use Rattle.conn_engine.specs.declared.phase.ConnPhase.TheVariants.{Ended}
-use Rattle.conn_laws.specs.Calls.{StepCalls, FailedCalls}
+use Rattle.conn_laws.specs.Calls.{StepCalls, FailedCalls, handed}
 use Rattle.conn_service.specs.Acts.{Act, Asks, Steps, Loses, Fails, IsFull, GivesUp, Others}
 use Rattle.conn_service.specs.Lives.{Does}
 use Rattle.conn_service.specs.Services.{ServiceState}
@@ -33,18 +33,19 @@ module _ {T : Type 0} (group : ℕ → GroupId) (seen : Sights) where
   AreOfFailure input old supply calls new supply' =
       (step : FailedCalls (Calls group seen) supply old.client.conn.number old.client.conn.phase input supply') × (calls ≡ step.supply_calls) × (new.client.conn.phase ≡ Ended)
 
-  -- those of the last step of a connection that is given up, which sends nothing and so hands nothing out
-  abbrev pub AreOfTheLast : ServiceState PlaceState T → Worker → List (SupplyCall PlaceState) → ServiceState PlaceState T → Worker → Type 0
-  AreOfTheLast old supply calls new supply' =
-      ((next : Then) × AreOfStep inputs.EndOfInput [] next old supply calls new supply') ⊎ AreOfFailure inputs.EndOfInput old supply calls new supply'
+  -- those of the last step of a connection that is given up, which sends nothing and hands nothing out
+  abbrev pub AreOfLastStep : ServiceState PlaceState T → Worker → List (SupplyCall PlaceState) → ServiceState PlaceState T → Worker → Type 0
+  AreOfLastStep old supply calls new supply' =
+      (handed calls ≡ [])
+      × (((next : Then) × AreOfStep inputs.EndOfInput [] next old supply calls new supply') ⊎ AreOfFailure inputs.EndOfInput old supply calls new supply')
 
   -- the calls of an act; what others do to the supply is none of a round
   abbrev pub AreOfAct : Act → ServiceState PlaceState T → Worker → List (SupplyCall PlaceState) → ServiceState PlaceState T → Worker → Type 0
   AreOfAct (Steps now input sent next) old supply calls new supply' = AreOfStep input sent next old supply calls new supply'
   AreOfAct (Loses now input sent next) old supply calls new supply' = AreOfStep input sent next old supply calls new supply'
   AreOfAct (Fails now input) old supply calls new supply' = AreOfFailure input old supply calls new supply'
-  AreOfAct (IsFull now) old supply calls new supply' = AreOfTheLast old supply calls new supply'
-  AreOfAct (GivesUp now) old supply calls new supply' = AreOfTheLast old supply calls new supply'
+  AreOfAct (IsFull now) old supply calls new supply' = AreOfLastStep old supply calls new supply'
+  AreOfAct (GivesUp now) old supply calls new supply' = AreOfLastStep old supply calls new supply'
   AreOfAct (Asks is_kicked) old supply calls new supply' = calls ≡ Kicked old.client.conn.number is_kicked ∷ []
   AreOfAct Others old supply calls new supply' = ⊥
   AreOfAct _ old supply calls new supply' = calls ≡ []

@@ -24,7 +24,7 @@ use Rattle.worker_connections.specs.declared.served.ServedCounts.{ServedCounts}
 use Rattle.worker_connections.specs.declared.sweeps.Sweeps.{Sweeps}
 use Rattle.worker_connections.specs.Arrivals.{ArrivedState, IsWatched, opening_at}
 use Rattle.worker_connections.specs.Chains.{RunState}
-use Rattle.worker_connections.specs.Polling.{PollerCall, Close, and_called}
+use Rattle.worker_connections.specs.PollerCalls.{PollerCall, Close, with_call}
 use Rattle.worker_connections.specs.Counting.{counted, counts_of, none_served}
 use Rattle.worker_connections.specs.Sweeping.{KeepsMoment}
 
@@ -37,7 +37,7 @@ pub record ConnectionsState (T : Type 0) : Type 0 where
   pub served : ServedCounts
   pub sweeps : Sweeps
   pub supply : Worker
-  pub polled : Option (List (PollerCall T))
+  pub poller_calls : Option (List (PollerCall T))
 
 -- how many connections are open
 abbrev pub live : {T : Type 0} → ConnectionsState T → ℕ
@@ -60,7 +60,7 @@ run_of connections =
       cells = connections.cells;
       received = connections.receiver.received;
       served = connections.served;
-      polled = connections.polled;
+      poller_calls = connections.poller_calls;
       latest = connections.sweeps.latest;
     }
 
@@ -109,17 +109,17 @@ pub record IsDone {T : Type 0} (connections : ConnectionsState T) : Type 0 where
 -- a connection that came is opened in a cell at this moment, with the number of that cell, over its transport as it is watched; or in none, and its transport is closed as it came
 abbrev pub Admits : {T : Type 0} → (T → Counts) → (T → Option (List ℕ)) → (T → Option (List ℕ)) → (first now : ℕ) → ArrivedState T → List (Option (ServiceState PlaceState T)) → Option (List (PollerCall T))
     → Option ℕ → List (Option (ServiceState PlaceState T)) → Option (List (PollerCall T)) → Type 0
-Admits {T} counts given accepted first now arrived old polled None new polled' =
-    (new ≡ old) × ((watched : T) × IsWatched counts given accepted arrived.transport watched × (polled' ≡ and_called (Close watched) polled))
-Admits {T} counts given accepted first now arrived old polled (Some cell) new polled' =
-    (watched : T) × IsWatched counts given accepted arrived.transport watched × InCell old cell (Opens (first + cell) (opening_at now arrived) watched) new × (occupied new ≡ occupied old + 1) × (polled' ≡ polled)
+Admits {T} counts given accepted first now arrived old poller_calls None new poller_calls' =
+    (new ≡ old) × ((watched : T) × IsWatched counts given accepted arrived.transport watched × (poller_calls' ≡ with_call (Close watched) poller_calls))
+Admits {T} counts given accepted first now arrived old poller_calls (Some cell) new poller_calls' =
+    (watched : T) × IsWatched counts given accepted arrived.transport watched × InCell old cell (Opens (first + cell) (opening_at now arrived) watched) new × (occupied new ≡ occupied old + 1) × (poller_calls' ≡ poller_calls)
 
 -- it is open then, or has ended and is counted as one for which an allocation failed
 abbrev pub TakesIn : {T : Type 0} → (T → Counts) → (T → Option (List ℕ)) → (T → Option (List ℕ)) → (first now : ℕ) → ArrivedState T → List (Option (ServiceState PlaceState T)) → ServedCounts
     → Option (List (PollerCall T)) → List (Option (ServiceState PlaceState T)) → ServedCounts → Option (List (PollerCall T)) → Type 0
-TakesIn counts given accepted first now arrived old served polled new served' polled' =
-    ((cell : ℕ) × Admits counts given accepted first now arrived old polled (Some cell) new polled' × (served' ≡ served))
-    ⊎ (Admits counts given accepted first now arrived old polled None new polled' × (served' ≡ counted Memory served))
+TakesIn counts given accepted first now arrived old served poller_calls new served' poller_calls' =
+    ((cell : ℕ) × Admits counts given accepted first now arrived old poller_calls (Some cell) new poller_calls' × (served' ≡ served))
+    ⊎ (Admits counts given accepted first now arrived old poller_calls None new poller_calls' × (served' ≡ counted Memory served))
 
 -- what came through the channel is told of the cells: a connection was opened in the free cell that is told, and in no other; or none was opened
 abbrev pub TellsCell : {T : Type 0} → Admission → List (Option (ServiceState PlaceState T)) → List (Option (ServiceState PlaceState T)) → Type 0

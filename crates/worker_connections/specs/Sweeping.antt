@@ -1,4 +1,4 @@
--- When the connections of a worker went on: each does so at least every 50 milliseconds of its worker's clock, and has a Tick at least every 100.
+-- When the connections of a worker went on: each does so at least every 50 milliseconds of its worker's moments, and has a Tick at least every 100.
 use Rattle.std.specs.Prelude.{◌≡◌, ◌≢◌, ◌⊎◌, ℕ, ◌+◌, ◌-◌, ◌<◌, ◌≤◌, max, ⊤, List, [], Option, Some, None, All, slice_index_or}
 use Rattle.conn_engine.specs.declared.phase.Opening.{Opening}
 use Rattle.conn_service.specs.declared.served.Round.{Round}
@@ -21,7 +21,7 @@ WaitsInTime pause now swept = (pause ≡ 0) ⊎ (pause + (now - swept) ≤ sweep
 abbrev pub IsInTime : Sweeps → Type 0
 IsInTime sweeps = sweeps.latest - sweeps.swept < sweep_period
 
--- the worker's moment is that of its clock, and never before an earlier one
+-- the worker's moment is the latest that its poller told
 abbrev pub looked : ℕ → Sweeps → Sweeps
 looked now sweeps = record sweeps { latest = max sweeps.latest now }
 

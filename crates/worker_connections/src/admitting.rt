@@ -1,6 +1,6 @@
 //! A connection that came is opened in a cell, and one that has ended is closed.
 ghost use Rattle.std.specs.Prelude.{◌≡◌, length};
-ghost use Rattle.worker_connections.specs.Polling.{closed_after};
+ghost use Rattle.worker_connections.specs.PollerCalls.{closed_after};
 ghost use Rattle.worker_connections.specs.Serving.{Admits, TakesIn, TellsCell, round_of};
 
 use crate::admission::Admission;
@@ -23,7 +23,7 @@ pub(crate) fn take_in<B: Broker, T: Transport, Q: Poller<T>>(
     first: u16,
     now: u64,
 ) -> Admission
-    ensures taken { TakesIn T.counts T.given T.accepted first now arrived table.old served.old (Q.polled poller.old) table.new served.new (Q.polled poller.new) }
+    ensures taken { TakesIn T.counts T.given T.accepted first now arrived table.old served.old (Q.poller_calls poller.old) table.new served.new (Q.poller_calls poller.new) }
     ensures cell { TellsCell result table.old table.new }
     ensures len { length table.new ≡ length table.old }
 {
@@ -45,7 +45,7 @@ fn admit<B: Broker, T: Transport, Q: Poller<T>>(
     first: u16,
     now: u64,
 ) -> Option<usize>
-    ensures admits { Admits T.counts T.given T.accepted first now arrived table.old (Q.polled poller.old) result table.new (Q.polled poller.new) }
+    ensures admits { Admits T.counts T.given T.accepted first now arrived table.old (Q.poller_calls poller.old) result table.new (Q.poller_calls poller.new) }
     ensures len { length table.new ≡ length table.old }
 {
     let (mut transport, max_inflight) = arrived.into_parts();
@@ -78,7 +78,7 @@ pub(crate) fn settle<T: Transport, Q: Poller<T>>(
     cell_outcome: CellOutcome<T>,
 ) -> Option<Round>
     ensures told { result ≡ round_of cell_outcome }
-    ensures polled { Q.polled poller.new ≡ closed_after cell_outcome (Q.polled poller.old) }
+    ensures poller_calls { Q.poller_calls poller.new ≡ closed_after cell_outcome (Q.poller_calls poller.old) }
 {
     match cell_outcome {
         CellOutcome::Vacant => None,

@@ -7,7 +7,7 @@ ghost use Rattle.shared_supply.specs.Calls.{Calls};
 ghost use Rattle.shared_supply.specs.Waking.{KeepsAtMost, no_wakes};
 ghost use Rattle.shared_supply.specs.Workers.{Begins as BeginsVisit, Leaves as LeavesVisit, is_visiting};
 ghost use Rattle.worker_connections.specs.Chains.{HasRunTo, OwesNothing};
-ghost use Rattle.worker_connections.specs.Polling.{Wait as Waits, HasNoCalls, and_called};
+ghost use Rattle.worker_connections.specs.PollerCalls.{Wait as WaitCall, HasNoCalls, with_call};
 ghost use Rattle.worker_connections.specs.Handles.{IsUnused};
 ghost use Rattle.worker_connections.specs.Serving.{AreCounted, AreFresh, GoesBy, IsDone, Rounds, StaysOf, TellsCell, live, round_of, run_of, wakes_of, with_wakes};
 ghost use Rattle.worker_connections.specs.Members.{HasTaker, TakesIn as WouldTake, one_called_if};
@@ -70,11 +70,11 @@ impl<'a, 'g, B: Broker, N: HistoryName, T: Transport + Drop, Q: Poller<T>, R: Wa
 
     ghost Value = { ConnectionsState T };
 
-    ghost view = { λ c. record { first = c.first; receiver = c.receiver; cells = c.table; served = c.served; sweeps = c.sweeps; supply = c.supply; polled = Q.polled c.poller } };
+    ghost view = { λ c. record { first = c.first; receiver = c.receiver; cells = c.table; served = c.served; sweeps = c.sweeps; supply = c.supply; poller_calls = Q.poller_calls c.poller } };
 
     ghost invariant = { λ c. IsAccounted (length c.receiver.received) c.table c.served × AreSwept c.sweeps c.table
         × (length c.members ≡ length c.table) × AreWished c.table c.members
-        × HasRunTo B.group (record { saw_ledger = B.Seen.saw_ledger; saw_main = B.Seen.saw_main; saw_returns = B.Seen.saw_returns }) T.counts T.given T.accepted (record { first = c.first; supply = c.supply; cells = c.table; received = c.receiver.received; served = c.served; polled = Q.polled c.poller; latest = c.sweeps.latest }) };
+        × HasRunTo B.group (record { saw_ledger = B.Seen.saw_ledger; saw_main = B.Seen.saw_main; saw_returns = B.Seen.saw_returns }) T.counts T.given T.accepted (record { first = c.first; supply = c.supply; cells = c.table; received = c.receiver.received; served = c.served; poller_calls = Q.poller_calls c.poller; latest = c.sweeps.latest }) };
 }
 
 impl<'a, 'g, B: Broker, N: HistoryName, T: Transport + Drop, Q: Poller<T>, R: Wait> Connections<
@@ -100,7 +100,7 @@ impl<'a, 'g, B: Broker, N: HistoryName, T: Transport + Drop, Q: Poller<T>, R: Wa
         requires table { table ≡ replicate (length members) None }
         requires supply { supply.wakes ≡ no_wakes }
         requires unused { IsUnused supply.ports supply.desk }
-        requires polled { HasNoCalls (Q.polled poller) }
+        requires poller_calls { HasNoCalls (Q.poller_calls poller) }
         ensures fresh { AreFresh receiver supply.entry.ports result }
         ensures numbers { (result.first ≡ first) × (length result.cells ≡ length members) }
         ensures known { result.supply.known ≡ supply.entry.known }
@@ -241,7 +241,7 @@ impl<'a, 'g, B: Broker, N: HistoryName, T: Transport + Drop, Q: Poller<T>, R: Wa
     pub fn wait(&mut self, rt: &R, at_most: u64) -> bool
         requires owes { OwesNothing (run_of self.old) }
         requires in_time { at_most ≤ sweep_period }
-        ensures { (now : ℕ) × (self.new ≡ record self.old { polled = and_called (Waits at_most now) self.old.polled; sweeps = looked now self.old.sweeps }) }
+        ensures { (now : ℕ) × (self.new ≡ record self.old { poller_calls = with_call (WaitCall at_most now) self.old.poller_calls; sweeps = looked now self.old.sweeps }) }
     {
         let woken = self.poller.wait(rt, at_most);
         self.sweeps.look(woken.now);
@@ -352,7 +352,7 @@ impl<'a, 'g, B: Broker, N: HistoryName, T: Transport + Drop, Q: Poller<T>, R: Wa
         ensures receiver { result.receiver ≡ self.entry.receiver }
         ensures served { result.served ≡ self.entry.served }
         ensures counted { live self.entry ≡ 0 → AreCounted (length self.entry.receiver.received) result.served }
-        ensures polled { Q.polled result.poller ≡ self.entry.polled }
+        ensures poller_calls { Q.poller_calls result.poller ≡ self.entry.poller_calls }
         ensures ran { HasRunTo B.group B.Seen.Witness T.counts T.given T.accepted (run_of self.entry) }
         ensures ports { live self.entry ≡ 0 → result.handle.ports ≡ self.entry.supply.ports }
         ensures known { live self.entry ≡ 0 → result.known ≡ self.entry.supply.known }

@@ -1,7 +1,7 @@
 //! Where a worker waits.
 ghost use Rattle.std.specs.Prelude.{◌≡◌, List, Option};
 ghost use Rattle.worker_connections.specs.Arrivals.{IsWatched};
-ghost use Rattle.worker_connections.specs.Polling.{PollerCall, Close, Wait as Waits, and_called};
+ghost use Rattle.worker_connections.specs.PollerCalls.{PollerCall, Close, Wait as WaitCall, with_call};
 
 use std::sync::Wait;
 use transport::Transport;
@@ -18,22 +18,22 @@ pub struct Woken {
 /// Where a worker waits for its connections, and for a call of the others, and learns the moment.
 pub trait Poller<T: Transport> {
     /// The calls of it by which transports were closed, each as it was then, and by which its worker waited, in order; where they are known.
-    ghost polled: { Self → Option (List (PollerCall T)) };
+    ghost poller_calls: { Self → Option (List (PollerCall T)) };
 
     /// Watches a transport from now on, under the least number that is free; `None` where there is none, or the system refuses.
     fn register(&mut self, transport: &mut T) -> Option<usize>
         ensures watched { IsWatched T.counts T.given T.accepted transport.old transport.new }
-        ensures polled { polled self.new ≡ polled self.old };
+        ensures poller_calls { poller_calls self.new ≡ poller_calls self.old };
 
     /// Closes a transport. The number under which it was watched, if it was, is free.
     fn close(&mut self, number: Option<usize>, transport: T)
-        ensures { polled self.new ≡ and_called (Close transport) (polled self.old) };
+        ensures { poller_calls self.new ≡ with_call (Close transport) (poller_calls self.old) };
 
     /// Waits until something may be read or written, or the worker is called, or for so many milliseconds.
     fn wait<R: Wait>(&mut self, rt: &R, at_most: u64) -> Woken
-        ensures { polled self.new ≡ and_called (Waits at_most result.now) (polled self.old) };
+        ensures { poller_calls self.new ≡ with_call (WaitCall at_most result.now) (poller_calls self.old) };
 
     /// The number of one that may be read or written, by the last wait.
     fn take_ready(&mut self) -> Option<usize>
-        ensures { polled self.new ≡ polled self.old };
+        ensures { poller_calls self.new ≡ poller_calls self.old };
 }

@@ -13,7 +13,7 @@ pub struct Sweeps {
     /// Those in the first `gone` cells went on at this moment or later.
     pub begun: u64,
     pub gone: usize,
-    /// The worker's moment: the one that its latest wait told, or that of an earlier one where the clock was set back.
+    /// The worker's moment: the latest that a wait of its poller told, and 0 before the first.
     pub latest: u64,
 }
 
@@ -26,7 +26,7 @@ impl Sweeps {
         latest: 0,
     };
 
-    /// The worker looked at its clock, which told this moment.
+    /// Its poller told this moment.
     pub(crate) fn look(&mut self, now: u64)
         ensures { self.new ≡ looked now self.old }
     {

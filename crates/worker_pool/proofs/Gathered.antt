@@ -19,7 +19,7 @@ use Rattle.worker_connections.specs.Cells.{occupied}
 use Rattle.worker_connections.specs.declared.served.ServedCounts.{ServedCounts}
 use Rattle.worker_connections.specs.Arrivals.{ArrivedState}
 use Rattle.worker_connections.specs.Chains.{HasRunTo, IsWholeRun, Run, RunState}
-use Rattle.worker_connections.specs.Polling.{PollerCall}
+use Rattle.worker_connections.specs.PollerCalls.{PollerCall}
 use Rattle.worker_connections.specs.Serving.{AreCounted, ConnectionsState, live, run_of}
 use Rattle.worker_pool.specs.Pools.{AreAllCounted, AreApart, AreServed, CountsAll, HaveEnded, IsApart, numbers_of, total_in}
 use Rattle.worker_pool.proofs.Counted.{of_all}
@@ -87,18 +87,18 @@ counts_all came served counts few = counts.all ∙ (sym (of_all counts.endings (
 module _ {T : Type 0} (group : ℕ → GroupId) (seen : Sights) (counts : T → Counts) (given accepted : T → Option (List ℕ)) where
   -- no worker gave anything back yet
   pub nobody : (least : ℕ) (routes : List Share) → HaveEnded group seen counts given accepted least [] [] [] [] [] routes
-  nobody least routes = record { runs = []; whole = tt; apart = tt; least_is = tt; ports_are = refl; callers_are = refl; received_are = refl; served_are = refl; polled_are = refl; one_part = tt; known = tt }
+  nobody least routes = record { runs = []; whole = tt; apart = tt; least_is = tt; ports_are = refl; callers_are = refl; received_are = refl; served_are = refl; poller_calls_are = refl; one_part = tt; known = tt }
 
   -- one worker more did
   pub ends : (least : ℕ) (ports ports' : List (List PortState)) (callers callers' : List (CallerState (Call Held PlaceState))) (receivers receivers' : List (ReceiverState (ArrivedState T))) (served served' : List ServedCounts)
-      (polled polled' : List (Option (List (PollerCall T)))) (routes routes' : List Share) (seen_routes : KnownState) (its : List PortState) (caller : CallerState (Call Held PlaceState))
+      (poller_calls poller_calls' : List (Option (List (PollerCall T)))) (routes routes' : List Share) (seen_routes : KnownState) (its : List PortState) (caller : CallerState (Call Held PlaceState))
       (receiver : ReceiverState (ArrivedState T)) (counted : ServedCounts) (asked : Option (List (PollerCall T))) (connections : ConnectionsState T)
-      → HaveEnded group seen counts given accepted least ports callers receivers served polled routes → ports' ≡ ports ++ its ∷ [] → callers' ≡ callers ++ caller ∷ [] → receivers' ≡ receivers ++ receiver ∷ []
-      → served' ≡ served ++ counted ∷ [] → polled' ≡ polled ++ asked ∷ []
+      → HaveEnded group seen counts given accepted least ports callers receivers served poller_calls routes → ports' ≡ ports ++ its ∷ [] → callers' ≡ callers ++ caller ∷ [] → receivers' ≡ receivers ++ receiver ∷ []
+      → served' ≡ served ++ counted ∷ [] → poller_calls' ≡ poller_calls ++ asked ∷ []
       → HasRunTo group seen counts given accepted (run_of connections) → live connections ≡ 0 → its ≡ connections.supply.ports → caller ≡ connections.supply.desk → receiver ≡ connections.receiver
-      → counted ≡ connections.served → asked ≡ connections.polled → connections.supply.desk.parts ≡ 1 → seen_routes ≡ connections.supply.known → AreFirst routes routes'
-      → AreFirst seen_routes.shares routes' → connections.first + length connections.cells ≤ least → HaveEnded group seen counts given accepted connections.first ports' callers' receivers' served' polled' routes'
-  ends least ports ports' callers callers' receivers receivers' served served' polled polled' routes routes' seen_routes its caller receiver counted asked connections all ports_are callers_are receivers_are served_are polled_are
+      → counted ≡ connections.served → asked ≡ connections.poller_calls → connections.supply.desk.parts ≡ 1 → seen_routes ≡ connections.supply.known → AreFirst routes routes'
+      → AreFirst seen_routes.shares routes' → connections.first + length connections.cells ≤ least → HaveEnded group seen counts given accepted connections.first ports' callers' receivers' served' poller_calls' routes'
+  ends least ports ports' callers callers' receivers receivers' served served' poller_calls poller_calls' routes routes' seen_routes its caller receiver counted asked connections all ports_are callers_are receivers_are served_are poller_calls_are
       ran none its_are caller_is receiver_is counted_is shut_is part routes_is grown learnt below =
       let run : Run T = ran.run in
       let first_is : run.last.first ≡ connections.first = ap (λ (state : RunState T). state.first) ran.here in
@@ -128,9 +128,9 @@ module _ {T : Type 0} (group : ℕ → GroupId) (seen : Sights) (counts : T → 
         served_are = served_are ∙ ap (λ (l : List ServedCounts). l ++ counted ∷ []) all.served_are
             ∙ ap (λ (c : ServedCounts). map (λ (one : Run T). one.last.served) all.runs ++ c ∷ []) (counted_is ∙ sym (ap (λ (state : RunState T). state.served) ran.here))
             ∙ sym (map_push (λ (one : Run T). one.last.served) all.runs run);
-        polled_are = polled_are ∙ ap (λ (l : List (Option (List (PollerCall T)))). l ++ asked ∷ []) all.polled_are
-            ∙ ap (λ (c : Option (List (PollerCall T))). map (λ (one : Run T). one.last.polled) all.runs ++ c ∷ []) (shut_is ∙ sym (ap (λ (state : RunState T). state.polled) ran.here))
-            ∙ sym (map_push (λ (one : Run T). one.last.polled) all.runs run);
+        poller_calls_are = poller_calls_are ∙ ap (λ (l : List (Option (List (PollerCall T)))). l ++ asked ∷ []) all.poller_calls_are
+            ∙ ap (λ (c : Option (List (PollerCall T))). map (λ (one : Run T). one.last.poller_calls) all.runs ++ c ∷ []) (shut_is ∙ sym (ap (λ (state : RunState T). state.poller_calls) ran.here))
+            ∙ sym (map_push (λ (one : Run T). one.last.poller_calls) all.runs run);
         one_part = all_push OnePart all.runs run all.one_part (ap (λ (state : RunState T). state.supply.desk.parts) ran.here ∙ part);
         known = all_push (Knows routes') all.runs run
             (all_weaker (Knows routes) (Knows routes') (λ one knew. first_of_more one.last.supply.known.shares routes routes' knew grown) all.runs all.known)
@@ -139,10 +139,10 @@ module _ {T : Type 0} (group : ℕ → GroupId) (seen : Sights) (counts : T → 
 
   -- what was sent came to them, as nothing is left where an end mark was received
   pub serve : (least : ℕ) (sender : SenderState (ArrivedState T)) (sent : List (ArrivedState T)) (ports : List (List PortState)) (callers : List (CallerState (Call Held PlaceState)))
-      (receivers : List (ReceiverState (ArrivedState T))) (served : List ServedCounts) (polled : List (Option (List (PollerCall T)))) (routes : List Share) → sent ≡ sender.sent
-      → HaveEnded group seen counts given accepted least ports callers receivers served polled routes
-      → IsSettled sender receivers → 0 < end_marks_received_by receivers → AreServed group seen counts given accepted sent routes ports callers served polled
-  serve least sender sent ports callers receivers served polled routes same all settled some =
+      (receivers : List (ReceiverState (ArrivedState T))) (served : List ServedCounts) (poller_calls : List (Option (List (PollerCall T)))) (routes : List Share) → sent ≡ sender.sent
+      → HaveEnded group seen counts given accepted least ports callers receivers served poller_calls routes
+      → IsSettled sender receivers → 0 < end_marks_received_by receivers → AreServed group seen counts given accepted sent routes ports callers served poller_calls
+  serve least sender sent ports callers receivers served poller_calls routes same all settled some =
       let whole : sent ≡ settled.past = same ∙ settled.sent ∙ ap (λ (l : List (ArrivedState T)). settled.past ++ l) (settled.last some) ∙ append-nil settled.past in
       let Came : List (List (ArrivedState T)) → Type 0 = λ lists. IsInterleaving settled.past lists in
       record {
@@ -153,16 +153,16 @@ module _ {T : Type 0} (group : ℕ → GroupId) (seen : Sights) (counts : T → 
         ports_are = all.ports_are;
         callers_are = all.callers_are;
         served_are = all.served_are;
-        polled_are = all.polled_are;
+        poller_calls_are = all.poller_calls_are;
         one_part = all.one_part;
         known = all.known;
       }
 
   -- and more is known of the routes
   pub more_known : (sent : List (ArrivedState T)) (routes routes' : List Share) (ports : List (List PortState)) (callers : List (CallerState (Call Held PlaceState))) (served : List ServedCounts)
-      (polled : List (Option (List (PollerCall T)))) → AreFirst routes routes' → AreServed group seen counts given accepted sent routes ports callers served polled
-      → AreServed group seen counts given accepted sent routes' ports callers served polled
-  more_known sent routes routes' ports callers served polled grown workers =
+      (poller_calls : List (Option (List (PollerCall T)))) → AreFirst routes routes' → AreServed group seen counts given accepted sent routes ports callers served poller_calls
+      → AreServed group seen counts given accepted sent routes' ports callers served poller_calls
+  more_known sent routes routes' ports callers served poller_calls grown workers =
       let Knows : List Share → Run T → Type 0 = λ those one. AreFirst one.last.supply.known.shares those in
       record {
         runs = workers.runs;
@@ -172,7 +172,7 @@ module _ {T : Type 0} (group : ℕ → GroupId) (seen : Sights) (counts : T → 
         ports_are = workers.ports_are;
         callers_are = workers.callers_are;
         served_are = workers.served_are;
-        polled_are = workers.polled_are;
+        poller_calls_are = workers.poller_calls_are;
         one_part = workers.one_part;
         known = all_weaker (Knows routes) (Knows routes') (λ one knew. first_of_more one.last.supply.known.shares routes routes' knew grown) workers.runs workers.known;
       }

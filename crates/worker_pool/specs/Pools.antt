@@ -17,7 +17,7 @@ use Rattle.worker_connections.specs.declared.served.ServedCounts.{ServedCounts}
 use Rattle.worker_connections.specs.Arrivals.{ArrivedState}
 use Rattle.worker_connections.specs.Chains.{IsWholeRun, Run}
 use Rattle.worker_connections.specs.Counting.{counts_of, total}
-use Rattle.worker_connections.specs.Polling.{PollerCall}
+use Rattle.worker_connections.specs.PollerCalls.{PollerCall}
 use Rattle.worker_connections.specs.Serving.{AreCounted}
 
 -- how many connections are counted by these workers
@@ -51,7 +51,7 @@ module _ {T : Type 0} (group : ℕ → GroupId) (seen : Sights) (counts : T → 
   -- workers ran to their ends, and gave this back, all in one order: the ports, the callers of the desk, the ends of the channel, the counts, and the calls of their
   -- pollers; what each knew of the routes is a beginning of these shares. No number of a connection is less than this one, or stands with two of them
   pub record HaveEnded (least : ℕ) (ports : List (List PortState)) (callers : List (CallerState (Call Held PlaceState))) (receivers : List (ReceiverState (ArrivedState T))) (served : List ServedCounts)
-      (polled : List (Option (List (PollerCall T)))) (routes : List Share) : Type 0 where
+      (poller_calls : List (Option (List (PollerCall T)))) (routes : List Share) : Type 0 where
     pub runs : List (Run T)
     pub whole : AllByRecursion (IsWholeRun group seen counts given accepted) runs
     pub apart : AreApart runs
@@ -60,7 +60,7 @@ module _ {T : Type 0} (group : ℕ → GroupId) (seen : Sights) (counts : T → 
     pub callers_are : callers ≡ map (λ run. run.last.supply.desk) runs
     pub received_are : lists_of receivers ≡ map (λ run. run.last.received) runs
     pub served_are : served ≡ map (λ run. run.last.served) runs
-    pub polled_are : polled ≡ map (λ run. run.last.polled) runs
+    pub poller_calls_are : poller_calls ≡ map (λ run. run.last.poller_calls) runs
     pub one_part : AllByRecursion (λ run. run.last.supply.desk.parts ≡ 1) runs
     pub known : AllByRecursion (λ run. AreFirst run.last.supply.known.shares routes) runs
 
@@ -68,7 +68,7 @@ module _ {T : Type 0} (group : ℕ → GroupId) (seen : Sights) (counts : T → 
   -- connections came, in this order, each to one of the workers, once (`came_to`). No two workers have a number in common (`apart`). The ports, the callers and the counts are those that the runs ended with, and so are the
   -- calls of the pollers, all in one order; and what each worker knew of the routes is a beginning of these shares, slot by slot
   pub record AreServed (came : List (ArrivedState T)) (routes : List Share) (ports : List (List PortState)) (callers : List (CallerState (Call Held PlaceState))) (served : List ServedCounts)
-      (polled : List (Option (List (PollerCall T)))) : Type 0 where
+      (poller_calls : List (Option (List (PollerCall T)))) : Type 0 where
     pub runs : List (Run T)
     pub whole : AllByRecursion (IsWholeRun group seen counts given accepted) runs
     pub apart : AreApart runs
@@ -76,6 +76,6 @@ module _ {T : Type 0} (group : ℕ → GroupId) (seen : Sights) (counts : T → 
     pub ports_are : ports ≡ map (λ run. run.last.supply.ports) runs
     pub callers_are : callers ≡ map (λ run. run.last.supply.desk) runs
     pub served_are : served ≡ map (λ run. run.last.served) runs
-    pub polled_are : polled ≡ map (λ run. run.last.polled) runs
+    pub poller_calls_are : poller_calls ≡ map (λ run. run.last.poller_calls) runs
     pub one_part : AllByRecursion (λ run. run.last.supply.desk.parts ≡ 1) runs
     pub known : AllByRecursion (λ run. AreFirst run.last.supply.known.shares routes) runs

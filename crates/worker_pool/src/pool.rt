@@ -88,7 +88,7 @@ where
     ensures taken { IfOk result (λ pooled. (S.tally pooled.taken.source).arrivals ≡ (S.tally source).arrivals + pooled.taken.came) }
     ensures ends { IfOk result (λ pooled. EndedAs S.tally pooled.taken.end source pooled.taken.source) }
     ensures served { IfOk result (λ pooled. (came : List T) × Gave S.arrived source came pooled.taken.source × (pooled.taken.came ≡ length came)
-        × AreServed B.group B.Seen.Witness T.counts T.given T.accepted (arrivals setup.entry.max_inflight came) routes.new.told (map (λ handle. handle.ports) pooled.handles.items) (map (λ handle. handle.desk) pooled.handles.items) pooled.served.items (map Q.polled pooled.pollers.items)) }
+        × AreServed B.group B.Seen.Witness T.counts T.given T.accepted (arrivals setup.entry.max_inflight came) routes.new.told (map (λ handle. handle.ports) pooled.handles.items) (map (λ handle. handle.desk) pooled.handles.items) pooled.served.items (map Q.poller_calls pooled.pollers.items)) }
     ensures counted { IfOk result (λ pooled. pooled.taken.came < 2 ^ 64 → pooled.taken.came ≡ total_in pooled.served.items) }
     ensures watched { IfOk result (λ _. D.has_watched watch.old watch.new input.old input.new) }
     ensures untouched { IfErr result (λ unbegun. unbegun.source ≡ source) }
@@ -270,7 +270,7 @@ fn retire<
     ensures source { result.taken.source ≡ acceptor.entry.source }
     ensures came { result.taken.came ≡ length acceptor.entry.sender.sent }
     ensures ends { result.taken.end ≡ acceptor.entry.end }
-    ensures served { AreServed B.group B.Seen.Witness T.counts T.given T.accepted acceptor.entry.sender.sent routes.new.told (map (λ handle. handle.ports) result.handles.items) (map (λ handle. handle.desk) result.handles.items) result.served.items (map Q.polled result.pollers.items) }
+    ensures served { AreServed B.group B.Seen.Witness T.counts T.given T.accepted acceptor.entry.sender.sent routes.new.told (map (λ handle. handle.ports) result.handles.items) (map (λ handle. handle.desk) result.handles.items) result.served.items (map Q.poller_calls result.pollers.items) }
     ensures counted { CountsAll result.taken.came result.served.items }
     ensures routes { routes.new ≡ record routes.old { told = routes.new.told } }
 {
@@ -327,13 +327,13 @@ fn gather<
     requires pollers { length pollers.old.items + length workers.items ≤ vec_capacity pollers.old }
     requires of { AreOf sender.now.channel receivers.old.items }
     requires all { AreAllCounted receivers.old.items served.old.items }
-    requires ended { (share : ℕ) × AreNumbered share workers.items × HaveEnded B.group B.Seen.Witness T.counts T.given T.accepted (length workers.items * share) (map (λ handle. handle.ports) handles.old.items) (map (λ handle. handle.desk) handles.old.items) receivers.old.items served.old.items (map Q.polled pollers.old.items) routes.old.told }
+    requires ended { (share : ℕ) × AreNumbered share workers.items × HaveEnded B.group B.Seen.Witness T.counts T.given T.accepted (length workers.items * share) (map (λ handle. handle.ports) handles.old.items) (map (λ handle. handle.desk) handles.old.items) receivers.old.items served.old.items (map Q.poller_calls pollers.old.items) routes.old.told }
     ensures handles { length handles.new.items ≡ length handles.old.items + length workers.entry.items }
     ensures receivers { length receivers.new.items ≡ length receivers.old.items + length workers.entry.items }
     ensures of { AreOf sender.now.channel receivers.new.items }
     ensures marks { end_marks_received_by receivers.new.items ≡ end_marks_received_by receivers.old.items + length workers.entry.items }
     ensures all { AreAllCounted receivers.new.items served.new.items }
-    ensures ended { HaveEnded B.group B.Seen.Witness T.counts T.given T.accepted 0 (map (λ handle. handle.ports) handles.new.items) (map (λ handle. handle.desk) handles.new.items) receivers.new.items served.new.items (map Q.polled pollers.new.items) routes.new.told }
+    ensures ended { HaveEnded B.group B.Seen.Witness T.counts T.given T.accepted 0 (map (λ handle. handle.ports) handles.new.items) (map (λ handle. handle.desk) handles.new.items) receivers.new.items served.new.items (map Q.poller_calls pollers.new.items) routes.new.told }
     ensures routes { routes.new ≡ record routes.old { told = routes.new.told } }
 {
     let mut workers = workers;

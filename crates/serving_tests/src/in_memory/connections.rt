@@ -51,7 +51,7 @@ impl AlwaysReady {
 }
 
 impl Poller<Scripted> for AlwaysReady {
-    ghost polled = { λ _. None };
+    ghost poller_calls = { λ _. None };
 
     fn register(&mut self, transport: &mut Scripted) -> Option<usize> {
         let _ = transport;

@@ -39,7 +39,7 @@ workers-preserved g c =
     let none = done.1.none_live in
     let ports = ap (λ (l : List (WorkerHandle g.row.B.Denot g.row.N.Denot g.row.B-Seen.Denot)). map (λ (handle : WorkerHandle g.row.B.Denot g.row.N.Denot g.row.B-Seen.Denot). handle.ports) l) c.push_reserved.ensures.items ∙ map_push (λ (handle : WorkerHandle g.row.B.Denot g.row.N.Denot g.row.B-Seen.Denot). handle.ports) c.workers.handles.items returned.handle in
     let callers = ap (λ (l : List (WorkerHandle g.row.B.Denot g.row.N.Denot g.row.B-Seen.Denot)). map (λ (handle : WorkerHandle g.row.B.Denot g.row.N.Denot g.row.B-Seen.Denot). handle.desk) l) c.push_reserved.ensures.items ∙ map_push (λ (handle : WorkerHandle g.row.B.Denot g.row.N.Denot g.row.B-Seen.Denot). handle.desk) c.workers.handles.items returned.handle in
-    let shut = ap (λ (l : List g.row.Q.Denot). map g.Q.Poller.polled l) c.push_reserved-in-Some-3.ensures.items ∙ map_push g.Q.Poller.polled c.workers.pollers.items returned.poller in
+    let shut = ap (λ (l : List g.row.Q.Denot). map g.Q.Poller.poller_calls l) c.push_reserved-in-Some-3.ensures.items ∙ map_push g.Q.Poller.poller_calls c.workers.pollers.items returned.poller in
     let published = c.publish.ensures.told in
     let share = c.workers.invariant.ended.0 in
     let numbered = popped_at (IsNumbered share) 0 c.pop.new.self.items c.in-Some.worker (subst (AreNumbered share) c.in-Some.ensures.items c.workers.invariant.ended.1) in
@@ -50,7 +50,7 @@ workers-preserved g c =
     let below : c.in-Some.worker.connections.first + length c.in-Some.worker.connections.cells ≤ length c.workers.workers.items * share = omega (arith, times, least_is, numbered.1.1) in
     let Ended : ℕ → Type 0 = λ least. HaveEnded g.B.Broker.group (record { saw_ledger = g.B.Seen.LedgerWitness.saw_ledger; saw_main = g.B.Seen.Witness.saw_main; saw_returns = g.B.Seen.Witness.saw_returns }) g.T.Transport.counts g.T.Transport.given g.T.Transport.accepted least
     (map (λ (handle : WorkerHandle g.row.B.Denot g.row.N.Denot g.row.B-Seen.Denot). handle.ports) c.push_reserved.new.self.items) (map (λ (handle : WorkerHandle g.row.B.Denot g.row.N.Denot g.row.B-Seen.Denot). handle.desk) c.push_reserved.new.self.items)
-    c.push_reserved-in-Some.new.self.items c.push_reserved-in-Some-2.new.self.items (map g.Q.Poller.polled c.push_reserved-in-Some-3.new.self.items) c.publish.new.other.told in
+    c.push_reserved-in-Some.new.self.items c.push_reserved-in-Some-2.new.self.items (map g.Q.Poller.poller_calls c.push_reserved-in-Some-3.new.self.items) c.publish.new.other.told in
     record {
       workers = split.0;
       table = ap (λ (k : KnownState). k.table) published.same ∙ c.workers.invariant.table;
@@ -75,9 +75,9 @@ workers-preserved g c =
         subst Ended least_is
             (ends g.B.Broker.group (record { saw_ledger = g.B.Seen.LedgerWitness.saw_ledger; saw_main = g.B.Seen.Witness.saw_main; saw_returns = g.B.Seen.Witness.saw_returns }) g.T.Transport.counts g.T.Transport.given g.T.Transport.accepted _ _ _ _ _ c.workers.receivers.items c.push_reserved-in-Some.new.self.items
             c.workers.served.items c.push_reserved-in-Some-2.new.self.items _ _ c.workers.routes.told c.publish.new.other.told returned.known returned.handle.ports returned.handle.desk receiver returned.served
-            (g.Q.Poller.polled returned.poller) c.in-Some.worker.connections
+            (g.Q.Poller.poller_calls returned.poller) c.in-Some.worker.connections
             c.workers.invariant.ended.2 ports callers c.push_reserved-in-Some.ensures.items c.push_reserved-in-Some-2.ensures.items shut
-            c.into_parts-handle.ensures.ran none (c.into_parts-handle.ensures.ports none) (c.into_parts-handle.ensures.desk none) is c.into_parts-handle.ensures.served c.into_parts-handle.ensures.polled
+            c.into_parts-handle.ensures.ran none (c.into_parts-handle.ensures.ports none) (c.into_parts-handle.ensures.desk none) is c.into_parts-handle.ensures.served c.into_parts-handle.ensures.poller_calls
             (ap (λ (its : Ties g.row.T.Denot). its.parts) done.0)
             (c.into_parts-handle.ensures.known none) published.kept published.told below),
       );
@@ -89,5 +89,5 @@ returns-clause-ended g c =
     let share = c.workers.invariant.ended.0 in
     let Ended : ℕ → Type 0 = λ least. HaveEnded g.B.Broker.group (record { saw_ledger = g.B.Seen.LedgerWitness.saw_ledger; saw_main = g.B.Seen.Witness.saw_main; saw_returns = g.B.Seen.Witness.saw_returns }) g.T.Transport.counts g.T.Transport.given g.T.Transport.accepted least
     (map (λ (handle : WorkerHandle g.row.B.Denot g.row.N.Denot g.row.B-Seen.Denot). handle.ports) c.workers.handles.items) (map (λ (handle : WorkerHandle g.row.B.Denot g.row.N.Denot g.row.B-Seen.Denot). handle.desk) c.workers.handles.items)
-    c.workers.receivers.items c.workers.served.items (map g.Q.Poller.polled c.workers.pollers.items) c.workers.routes.told in
+    c.workers.receivers.items c.workers.served.items (map g.Q.Poller.poller_calls c.workers.pollers.items) c.workers.routes.told in
     subst Ended (ap (λ n. n * share) none ∙ zero-mul share) c.workers.invariant.ended.2

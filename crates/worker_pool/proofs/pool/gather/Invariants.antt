@@ -20,7 +20,7 @@ invariant-workers g l = record {
   marks : end_marks_received_by l.receivers.items + length l.workers.items ≡ end_marks_received_by l.fn.receivers.items + length l.fn.workers.items;
   all : AreAllCounted l.receivers.items l.served.items;
   ended : (share : ℕ) × AreNumbered share l.workers.items × HaveEnded g.B.Broker.group (record { saw_ledger = g.B.Seen.LedgerWitness.saw_ledger; saw_main = g.B.Seen.Witness.saw_main; saw_returns = g.B.Seen.Witness.saw_returns }) g.T.Transport.counts g.T.Transport.given g.T.Transport.accepted (length l.workers.items * share) (map (λ handle. handle.ports) l.handles.items) (map (λ handle. handle.desk) l.handles.items) l.receivers.items l.served.items
-      (map g.Q.Poller.polled l.pollers.items) l.routes.told;
+      (map g.Q.Poller.poller_calls l.pollers.items) l.routes.told;
 }
 
 abbrev pub decreases-workers : goal.decreases-workers

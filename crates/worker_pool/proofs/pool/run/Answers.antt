@@ -58,7 +58,7 @@ returns-clause-served g c =
     let Source : g.row.S.Denot → g.row.S.Denot → Type 0 = λ old new. Gave g.S.Source.arrived old accepted.came new in
     let Served : List (ArrivedState g.row.T.Denot) → Type 0 = λ arrived.
     AreServed g.B.Broker.group (record { saw_ledger = g.B.Seen.LedgerWitness.saw_ledger; saw_main = g.B.Seen.Witness.saw_main; saw_returns = g.B.Seen.Witness.saw_returns }) g.T.Transport.counts g.T.Transport.given g.T.Transport.accepted arrived c.retire.new.routes.told (map (λ (handle : WorkerHandle g.row.B.Denot g.row.N.Denot g.row.B-Seen.Denot). handle.ports) c.retire.result.handles.items) (map (λ (handle : WorkerHandle g.row.B.Denot g.row.N.Denot g.row.B-Seen.Denot). handle.desk) c.retire.result.handles.items) c.retire.result.served.items
-    (map g.Q.Poller.polled c.retire.result.pollers.items) in (
+    (map g.Q.Poller.poller_calls c.retire.result.pollers.items) in (
       accepted.came,
       subst (λ new. Source c.args.source new) (sym c.retire.ensures.source)
           (subst (λ old. Source old c.run_all.new.acceptor.source) (ap (λ (a : AcceptorState g.row.T.Denot g.row.S.Denot). a.source) first) accepted.gave),

@@ -27,7 +27,7 @@ returns-clause-desk g c =
     let Told : WorkerState g.row.T.Denot → Type 0 = λ state. live state.connections ≡ 0 → c.into_parts.result.handle.desk ≡ state.connections.supply.desk in
     subst Told c.self.view_is c.into_parts.ensures.desk
 
-pub returns-clause-polled : goal.returns-clause-polled
-returns-clause-polled g c =
-    let Told : WorkerState g.row.T.Denot → Type 0 = λ state. g.Q.Poller.polled c.into_parts.result.poller ≡ state.connections.polled in
-    subst Told c.self.view_is c.into_parts.ensures.polled
+pub returns-clause-poller_calls : goal.returns-clause-poller_calls
+returns-clause-poller_calls g c =
+    let Told : WorkerState g.row.T.Denot → Type 0 = λ state. g.Q.Poller.poller_calls c.into_parts.result.poller ≡ state.connections.poller_calls in
+    subst Told c.self.view_is c.into_parts.ensures.poller_calls

@@ -24,11 +24,11 @@ invariant_of-self g c = (
   wished_noted c.self.inside.table c.make_round-cell_outcome.new.table c.self.inside.members c.note_held.new.members c.args.cell c.make_round-cell_outcome.ensures.turns.before c.make_round-cell_outcome.ensures.turns.after c.note_interest.ensures.0
       c.self.invariant.2 c.self.invariant.3 c.make_round-cell_outcome.ensures.turns.has c.make_round-cell_outcome.ensures.turns.is c.note_interest.ensures.1 (c.note_held.ensures ∙ c.note_interest.ensures.2),
   stays_at g.B.Broker.group (record { saw_ledger = g.B.Seen.LedgerWitness.saw_ledger; saw_main = g.B.Seen.Witness.saw_main; saw_returns = g.B.Seen.Witness.saw_returns }) g.T.Transport.counts g.T.Transport.given g.T.Transport.accepted c.self.inside.first c.self.inside.sweeps.latest c.note.new.self.latest c.make_round-cell_outcome.new.supply c.make_round-cell_outcome.new.table c.self.inside.receiver.received
-      c.count_behind.new.self (g.Q.Poller.polled c.settle.new.poller) (g.Q.Poller.polled c.settle.new.poller) refl (note_keeps c.args.cell c.len.result c.self.inside.sweeps c.note.new.self c.self.invariant.1.swept c.note.ensures).latest
+      c.count_behind.new.self (g.Q.Poller.poller_calls c.settle.new.poller) (g.Q.Poller.poller_calls c.settle.new.poller) refl (note_keeps c.args.cell c.len.result c.self.inside.sweeps c.note.new.self c.self.invariant.1.swept c.note.ensures).latest
       (outcome g.B.Broker.group (record { saw_ledger = g.B.Seen.LedgerWitness.saw_ledger; saw_main = g.B.Seen.Witness.saw_main; saw_returns = g.B.Seen.Witness.saw_returns }) g.T.Transport.counts g.T.Transport.given g.T.Transport.accepted c.self.inside.first c.self.inside.sweeps.latest c.self.inside.supply c.allow.new.self c.make_round-cell_outcome.new.supply c.args.most c.self.inside.table c.make_round-cell_outcome.new.table
-      c.self.inside.receiver.received c.self.inside.served c.count_behind.new.self (g.Q.Poller.polled c.self.inside.poller) (g.Q.Poller.polled c.settle.new.poller)
+      c.self.inside.receiver.received c.self.inside.served c.count_behind.new.self (g.Q.Poller.poller_calls c.self.inside.poller) (g.Q.Poller.poller_calls c.settle.new.poller)
       c.args.cell c.make_round-cell_outcome.result
-      c.self.invariant.4 c.allow.ensures c.make_round-cell_outcome.ensures.turns c.count_behind.ensures c.settle.ensures.polled),
+      c.self.invariant.4 c.allow.ensures c.make_round-cell_outcome.ensures.turns c.count_behind.ensures c.settle.ensures.poller_calls),
 )
 
 pub returns-clause-made : goal.returns-clause-made

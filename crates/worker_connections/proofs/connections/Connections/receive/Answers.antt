@@ -15,14 +15,14 @@ invariant_of-self g c =
     let more : length c.receive.new.self.received ≡ length c.self.inside.receiver.received + 1 =
     omega (arith, ap length is, length-append {A = ArrivedState g.row.T.Denot}) in
     let wished = wished_came g.T.Transport.counts g.T.Transport.given g.T.Transport.accepted _ c.self.inside.table c.take_in.new.table c.self.inside.served c.take_in.new.served
-    (g.Q.Poller.polled c.self.inside.poller) (g.Q.Poller.polled c.take_in.new.poller) c.self.inside.members c.self.inside.first c.self.inside.sweeps.latest c.self.invariant.2 c.self.invariant.3 c.take_in.ensures.taken in (
+    (g.Q.Poller.poller_calls c.self.inside.poller) (g.Q.Poller.poller_calls c.take_in.new.poller) c.self.inside.members c.self.inside.first c.self.inside.sweeps.latest c.self.invariant.2 c.self.invariant.3 c.take_in.ensures.taken in (
       came_one g.T.Transport.counts g.T.Transport.given g.T.Transport.accepted c.self.inside.first c.self.inside.sweeps.latest _ _ _ c.self.inside.table c.take_in.new.table
-          c.self.inside.served c.take_in.new.served (g.Q.Poller.polled c.self.inside.poller) (g.Q.Poller.polled c.take_in.new.poller) more c.self.invariant.0 c.take_in.ensures.taken,
+          c.self.inside.served c.take_in.new.served (g.Q.Poller.poller_calls c.self.inside.poller) (g.Q.Poller.poller_calls c.take_in.new.poller) more c.self.invariant.0 c.take_in.ensures.taken,
       goes_on g.T.Transport.counts g.T.Transport.given g.T.Transport.accepted _ c.self.inside.table c.take_in.new.table c.self.inside.served c.take_in.new.served
-          (g.Q.Poller.polled c.self.inside.poller) (g.Q.Poller.polled c.take_in.new.poller) c.self.inside.first c.self.inside.sweeps c.self.invariant.1 c.take_in.ensures.taken,
+          (g.Q.Poller.poller_calls c.self.inside.poller) (g.Q.Poller.poller_calls c.take_in.new.poller) c.self.inside.first c.self.inside.sweeps c.self.invariant.1 c.take_in.ensures.taken,
       wished.0,
       wished.1,
       comes g.B.Broker.group (record { saw_ledger = g.B.Seen.LedgerWitness.saw_ledger; saw_main = g.B.Seen.Witness.saw_main; saw_returns = g.B.Seen.Witness.saw_returns }) g.T.Transport.counts g.T.Transport.given g.T.Transport.accepted c.self.inside.first c.self.inside.sweeps.latest _ c.self.inside.supply c.self.inside.table c.take_in.new.table
           c.self.inside.receiver.received c.receive.new.self.received c.self.inside.served c.take_in.new.served
-          (g.Q.Poller.polled c.self.inside.poller) (g.Q.Poller.polled c.take_in.new.poller) is c.self.invariant.4 c.take_in.ensures.taken,
+          (g.Q.Poller.poller_calls c.self.inside.poller) (g.Q.Poller.poller_calls c.take_in.new.poller) is c.self.invariant.4 c.take_in.ensures.taken,
     )

@@ -14,6 +14,6 @@ invariant_of-self g c = (
   c.self.invariant.2,
   c.self.invariant.3,
   waits_on g.B.Broker.group (record { saw_ledger = g.B.Seen.LedgerWitness.saw_ledger; saw_main = g.B.Seen.Witness.saw_main; saw_returns = g.B.Seen.Witness.saw_returns }) g.T.Transport.counts g.T.Transport.given g.T.Transport.accepted c.self.inside.first c.self.inside.sweeps.latest c.args.at_most c.wait-woken.result.now c.look.new.self.latest c.self.inside.supply c.self.inside.table
-      c.self.inside.receiver.received c.self.inside.served (g.Q.Poller.polled c.self.inside.poller) (g.Q.Poller.polled c.wait-woken.new.self)
+      c.self.inside.receiver.received c.self.inside.served (g.Q.Poller.poller_calls c.self.inside.poller) (g.Q.Poller.poller_calls c.wait-woken.new.self)
       (subst (λ (state : ConnectionsState g.row.T.Denot). OwesNothing (run_of state)) (sym c.self.view_is) c.requires.owes) c.requires.in_time c.wait-woken.ensures (ap (λ (s : Sweeps). s.latest) c.look.ensures) c.self.invariant.4,
 )

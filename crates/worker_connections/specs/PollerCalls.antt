@@ -12,20 +12,20 @@ pub data PollerCall (T : Type 0) : Type 0 where
   Wait : (at_most now : ℕ) → PollerCall T
 
 -- this call too, where it is known which were made
-abbrev pub and_called : {T : Type 0} → PollerCall T → Option (List (PollerCall T)) → Option (List (PollerCall T))
-and_called poller_call polled = option_map (λ those. those ++ poller_call ∷ []) polled
+abbrev pub with_call : {T : Type 0} → PollerCall T → Option (List (PollerCall T)) → Option (List (PollerCall T))
+with_call poller_call poller_calls = option_map (λ those. those ++ poller_call ∷ []) poller_calls
 
 -- this transport was closed too, where its connection ended
 abbrev pub closed_if : {T : Type 0} → Option Served → T → Option (List (PollerCall T)) → Option (List (PollerCall T))
-closed_if None transport polled = polled
-closed_if (Some how) transport polled = and_called (Close transport) polled
+closed_if None transport poller_calls = poller_calls
+closed_if (Some how) transport poller_calls = with_call (Close transport) poller_calls
 
 -- after a round, which may have ended a connection
 abbrev pub closed_after : {T : Type 0} → CellOutcome T → Option (List (PollerCall T)) → Option (List (PollerCall T))
-closed_after turns.Vacant polled = polled
-closed_after (turns.Goes round) polled = polled
-closed_after (turns.Ended how transport) polled = and_called (Close transport) polled
+closed_after turns.Vacant poller_calls = poller_calls
+closed_after (turns.Goes round) poller_calls = poller_calls
+closed_after (turns.Ended how transport) poller_calls = with_call (Close transport) poller_calls
 
 -- nothing was closed or waited for yet, where that is known
 abbrev pub HasNoCalls : {T : Type 0} → Option (List (PollerCall T)) → Type 0
-HasNoCalls polled = IfSome polled (λ those. those ≡ [])
+HasNoCalls poller_calls = IfSome poller_calls (λ those. those ≡ [])
