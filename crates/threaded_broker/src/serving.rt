@@ -90,8 +90,8 @@ pub struct Closed<'g, B: Broker, N: HistoryName, S, Q> {
 /// **What a broker promises**, in every schedule of its threads, whatever its transports do (`headline`), is of this one run. The connections that the source gave, in its
 /// order, came each to one worker, once; and what each worker did is one list of deeds, from the ports that it was given, through which nothing was published, to those that
 /// it gave back: it opened each connection that came to it in a cell, or closed it as it came where an allocation failed, and went on with the connection in a cell by a
-/// round, each at the state that the deed before it left (`run`). The calls of its poller are just those of these deeds: of each connection its transport was closed, as the deed by which
-/// it ended left it, and each wait told the moment at which the worker went on. Through just these ports, of each group whose report is given:
+/// round, each at the state that the deed before it left (`run`). What its poller closed and waited for is just that of these deeds: each transport was closed as the deed by which its
+/// connection ended left it, and each wait told the moment at which the worker went on. Through just these ports, of each group whose report is given:
 ///
 /// - each message that was accepted was first handed to at most one member, once (`first_once`);
 /// - each member's first hand-outs from a publisher keep that publisher's order (`in_order`);
