@@ -76,12 +76,14 @@ impl<
     X: Crossing,
     R: Wait,
 > Worker<'a, 'g, B, N, T, Q, W, X, R> {
-    /// A worker that has no connection yet; those of the worker `n` will have the numbers of its share from `n` shares on. It receives through the channel of its parts, publishes through the ports of its handle, through which nothing was published,
-    /// and calls the desk as the caller of its handle, which made no call.
+    /// A worker without connections.
+    ///
+    /// Those that it opens have the numbers from `number * share` of its parts on, and are `share` at most. It receives them through the channel of its parts, publishes through the ports
+    /// of its handle, through which nothing was published, and calls the desk as the caller of its handle, which made no call.
     ///
     /// # Errors
     ///
-    /// What it was to have of the broker, where an allocation fails.
+    /// An allocation failed: the handle comes back.
     pub fn begin(
         rt: &'a R,
         alloc: Global,
