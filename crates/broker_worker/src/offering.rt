@@ -10,7 +10,7 @@ use broker_groups::Broker;
 use call_history::HistoryName;
 use conn_service::{Direction, Round};
 use std::sync::Wait;
-use transport::{Crossing, Transport};
+use transport::Transport;
 use worker_bells::SLOTS;
 use worker_connections::Poller;
 
@@ -22,9 +22,8 @@ impl<
     T: Transport + Drop,
     Q: Poller<T> + Drop,
     W: Wake + Drop,
-    X: Crossing,
     R: Wait,
-> Worker<'a, 'g, B, N, T, Q, W, X, R> {
+> Worker<'a, 'g, B, N, T, Q, W, R> {
     /// In a sweep, offers a message to a member of each group.
     pub(crate) fn offer_if(&mut self, sweeps: bool, buffer: &mut [u8; READ_SIZE])
         ensures goes { Rounds self.old.connections self.new.connections }

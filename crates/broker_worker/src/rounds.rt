@@ -11,7 +11,7 @@ use broker_groups::Broker;
 use call_history::HistoryName;
 use conn_service::{Direction, Round};
 use std::sync::Wait;
-use transport::{Crossing, Transport};
+use transport::Transport;
 use worker_bells::Mailboxes;
 use worker_connections::Poller;
 
@@ -23,9 +23,8 @@ impl<
     T: Transport + Drop,
     Q: Poller<T> + Drop,
     W: Wake + Drop,
-    X: Crossing,
     R: Wait,
-> Worker<'a, 'g, B, N, T, Q, W, X, R> {
+> Worker<'a, 'g, B, N, T, Q, W, R> {
     /// Connections that may be read or written are due.
     pub(crate) fn mark_ready(&mut self)
         ensures connections { self.new.connections ≡ self.old.connections }
@@ -98,7 +97,7 @@ impl<
         let worker = u32::try_from(self.number).unwrap_or(u32::MAX);
         let round = self
             .connections
-            .round(cell, self.crossing, worker, buffer, direction, most);
+            .round(cell, worker, buffer, direction, most);
         note_went(
             &mut self.due,
             self.mailboxes,

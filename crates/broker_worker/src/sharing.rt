@@ -10,7 +10,7 @@ use broker_groups::Broker;
 use call_history::HistoryName;
 use conn_service::Direction;
 use std::sync::Wait;
-use transport::{Crossing, Transport};
+use transport::Transport;
 use worker_bells::{Average, HeldCounts, Hint, Level, Load, SLOTS};
 use worker_connections::Poller;
 
@@ -200,9 +200,8 @@ impl<
     T: Transport + Drop,
     Q: Poller<T> + Drop,
     W: Wake + Drop,
-    X: Crossing,
     R: Wait,
-> Worker<'a, 'g, B, N, T, Q, W, X, R> {
+> Worker<'a, 'g, B, N, T, Q, W, R> {
     /// Finds for each group in which something has changed how many of the messages that wait are for its own members.
     pub(crate) fn plan(&mut self)
         ensures same { self.new.connections ≡ self.old.connections }

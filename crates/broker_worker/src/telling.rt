@@ -12,7 +12,7 @@ use broker_groups::Broker;
 use call_history::HistoryName;
 use shared_supply::AskedBack;
 use std::sync::Wait;
-use transport::{Crossing, Transport};
+use transport::Transport;
 use worker_bells::{Mailboxes, SLOTS};
 use worker_connections::Poller;
 
@@ -24,9 +24,8 @@ impl<
     T: Transport + Drop,
     Q: Poller<T> + Drop,
     W: Wake + Drop,
-    X: Crossing,
     R: Wait,
-> Worker<'a, 'g, B, N, T, Q, W, X, R> {
+> Worker<'a, 'g, B, N, T, Q, W, R> {
     /// Tells the others what its connections did that they may wait for: it rings for as many workers as there are messages for each group, and calls whom a
     /// session concerns.
     pub(crate) fn tell(&mut self)

@@ -19,7 +19,7 @@ use shared_supply::{SharedBroker, SharedSupply};
 use std::alloc::Global;
 use std::marker::Model;
 use std::sync::Wait;
-use transport::{Crossing, Transport};
+use transport::Transport;
 use worker_bells::{MOST_CONNECTIONS, Mailboxes, WorkerBells};
 use worker_connections::{Admission, Connections, Poller, Returned, ServiceTable, WorkerHandle};
 
@@ -40,14 +40,12 @@ pub struct Worker<
     T: Transport + Drop,
     Q: Poller<T>,
     W,
-    X,
     R: Wait,
 > {
     pub(crate) number: usize,
     pub(crate) connections: Connections<'a, 'g, B, N, T, Q, R>,
     pub(crate) own_bells: WorkerBells<W>,
     pub(crate) mailboxes: &'a Mailboxes<W>,
-    pub(crate) crossing: &'a X,
     pub(crate) due: Marks,
     // The broker closes.
     pub(crate) closing: bool,
@@ -56,8 +54,8 @@ pub struct Worker<
     pub(crate) sharing: Sharing,
 }
 
-impl<'a, 'g, B: Broker, N: HistoryName, T: Transport + Drop, Q: Poller<T>, W, X, R: Wait> Model
-    for Worker<'a, 'g, B, N, T, Q, W, X, R> {
+impl<'a, 'g, B: Broker, N: HistoryName, T: Transport + Drop, Q: Poller<T>, W, R: Wait> Model
+    for Worker<'a, 'g, B, N, T, Q, W, R> {
     ghost use Rattle.broker_worker.specs.Resting.{WorkerState};
 
     ghost Value = { WorkerState T };
@@ -73,9 +71,8 @@ impl<
     T: Transport + Drop,
     Q: Poller<T> + Drop,
     W: Wake + Drop,
-    X: Crossing,
     R: Wait,
-> Worker<'a, 'g, B, N, T, Q, W, X, R> {
+> Worker<'a, 'g, B, N, T, Q, W, R> {
     /// A worker without connections.
     ///
     /// Those that it opens have the numbers from `number * share` of its parts on, and are `share` at most. It receives them through the channel of its parts, publishes through the ports
@@ -91,8 +88,7 @@ impl<
         handle: WorkerHandle<B, N>,
         worker_parts: WorkerParts<T, Q, W>,
         mailboxes: &'a Mailboxes<W>,
-        crossing: &'a X,
-    ) -> Result<Worker<'a, 'g, B, N, T, Q, W, X, R>, WorkerHandle<B, N>>
+    ) -> Result<Worker<'a, 'g, B, N, T, Q, W, R>, WorkerHandle<B, N>>
         requires received { worker_parts.receiver.received ≡ [] }
         requires unused { IsUnused handle.ports handle.desk }
         ensures fresh { IfOk result (λ worker. AreFresh worker_parts.receiver handle.ports worker.connections) }
@@ -124,7 +120,7 @@ impl<
         let supply = SharedSupply::new(rt, alloc, shared_broker, key, ports, known, desk);
         let poller = unused_poller.into_inner();
         let connections = Connections::new(first, receiver, table, supply, members, poller);
-        Ok(Worker::of(number, connections, own_bells, due, mailboxes, crossing))
+        Ok(Worker::of(number, connections, own_bells, due, mailboxes))
     }
 
     /// A worker of a number, which has these connections.
@@ -134,8 +130,7 @@ impl<
         own_bells: WorkerBells<W>,
         due: Marks,
         mailboxes: &'a Mailboxes<W>,
-        crossing: &'a X,
-    ) -> Worker<'a, 'g, B, N, T, Q, W, X, R>
+    ) -> Worker<'a, 'g, B, N, T, Q, W, R>
         ensures { result.connections ≡ connections.entry }
     {
         Worker {
@@ -143,7 +138,6 @@ impl<
             connections,
             own_bells,
             mailboxes,
-            crossing,
             due,
             closing: false,
             waits: false,
@@ -279,7 +273,6 @@ impl<
             connections,
             own_bells,
             mailboxes: _,
-            crossing: _,
             due,
             closing: _,
             waits: _,

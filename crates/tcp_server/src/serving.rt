@@ -30,7 +30,6 @@ use std::thread::Threads;
 use tcp_edge::{ReactorError, TcpSource};
 use text_io::{RunError, write_all};
 use threaded_broker::{Closers, OpenBroker};
-use transport::OpenCrossing;
 use worker_pool::Closer;
 
 /// How a broker that was served came to its end.
@@ -252,9 +251,8 @@ fn live_with<
         ending: Closer::take(gate, &mut seats),
     };
     let stopper = Closer::take(gate, &mut seats);
-    let crossing = OpenCrossing;
     let count = usize::from(workers);
-    let Some(setup) = socket_setup(rt, alloc, count, &crossing, max_inflight) else {
+    let Some(setup) = socket_setup(rt, alloc, count, max_inflight) else {
         broker.abandon();
         return Err(RunError::Memory);
     };

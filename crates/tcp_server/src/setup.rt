@@ -11,24 +11,16 @@ use std::net::Net;
 use std::rt::Clock as SystemClock;
 use std::time::Instant;
 use tcp_edge::{Alarm, Reactor, Socket};
-use transport::OpenCrossing;
 use worker_pool::PoolSetup;
 
-/// A reactor, a clock and an alarm for each worker, and what its connections cross.
-pub(crate) type SocketSetup<'a, R> = PoolSetup<
-    'a,
-    Socket<TcpStream>,
-    SocketPoller<'a, R>,
-    Alarm,
-    OpenCrossing,
->;
+/// A reactor with a clock and an alarm for each worker.
+pub(crate) type SocketSetup<'a, R> = PoolSetup<Socket<TcpStream>, SocketPoller<'a, R>, Alarm>;
 
 /// What so many workers need, whose clocks begin now. `None` where an allocation fails, or the system refuses.
 pub(crate) fn socket_setup<'a, R: Net + SystemClock>(
     rt: &'a R,
     alloc: Global,
     count: usize,
-    crossing: &'a OpenCrossing,
     max_inflight: MaxInflight,
 ) -> Option<SocketSetup<'a, R>>
     ensures count { IfSome result (λ setup. length setup.unused_pollers.items ≡ count) }
@@ -47,7 +39,6 @@ pub(crate) fn socket_setup<'a, R: Net + SystemClock>(
     Some(PoolSetup {
         unused_pollers,
         alarms,
-        crossing,
         max_inflight,
     })
 }

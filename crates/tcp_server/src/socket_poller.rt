@@ -7,6 +7,7 @@ use std::rt::Clock as SystemClock;
 use std::sync::Wait;
 use std::time::Duration;
 use tcp_edge::{Reactor, Socket};
+use transport::Crossing;
 use worker_connections::{Poller, Woken};
 
 /// A reactor, as a worker waits there, and a clock.
@@ -20,6 +21,15 @@ impl<'a, R: SystemClock> SocketPoller<'a, R> {
     /// A worker waits at this reactor, and has this clock.
     pub(crate) fn new(reactor: Reactor, clock: Elapsed<'a, R>) -> SocketPoller<'a, R> {
         SocketPoller { reactor, clock }
+    }
+}
+
+/// It lets every worker pass.
+impl<'a, R: SystemClock> Crossing for SocketPoller<'a, R> {
+    ghost refuses = { λ _ _ _. ⊥ };
+
+    fn cross(&self, _worker: u32, _turn: u32) -> bool {
+        true
     }
 }
 

@@ -29,7 +29,7 @@ use std::alloc::Global;
 use std::rt::Clock as SystemClock;
 use std::sync::Wait;
 use std::thread::Threads;
-use transport::{Crossing, Source, Transport};
+use transport::{Source, Transport};
 use worker_connections::{Poller, ServedCounts, WorkerHandle};
 use worker_pool::{Closer, PoolSetup, Pooled, Taken, Unbegun, Watch, run};
 
@@ -118,7 +118,6 @@ pub fn serve<
     S: Source<T> + Drop + Send,
     Q: Poller<T> + Drop + Send,
     W: Wake + Drop + Send + Sync,
-    X: Crossing + Sync,
     I: Send,
     D: Watch<I> + Send,
     R: Threads + Wait + SystemClock + Sync,
@@ -127,7 +126,7 @@ pub fn serve<
     alloc: Global,
     broker: OpenBroker<'g, B, N>,
     shares: &[Share],
-    setup: PoolSetup<'_, T, Q, W, X>,
+    setup: PoolSetup<T, Q, W>,
     source: S,
     closers: Closers<'_, B>,
     watch: &mut D,
@@ -183,7 +182,6 @@ pub fn serve_until_closed<
     S: Source<T> + Drop + Send,
     Q: Poller<T> + Drop + Send,
     W: Wake + Drop + Send + Sync,
-    X: Crossing + Sync,
     I: Send,
     D: Watch<I> + Send,
     R: Threads + Wait + SystemClock + Sync,
@@ -192,7 +190,7 @@ pub fn serve_until_closed<
     alloc: Global,
     broker: OpenBroker<'g, B, N>,
     shares: &[Share],
-    setup: PoolSetup<'_, T, Q, W, X>,
+    setup: PoolSetup<T, Q, W>,
     source: S,
     closers: Closers<'_, B>,
     watch: &mut D,
@@ -275,7 +273,6 @@ fn run_bound<
     S: Source<T> + Drop + Send,
     Q: Poller<T> + Drop + Send,
     W: Wake + Drop + Send + Sync,
-    X: Crossing + Sync,
     I: Send,
     D: Watch<I> + Send,
     R: Threads + Wait + SystemClock + Sync,
@@ -285,7 +282,7 @@ fn run_bound<
     shared_broker: &SharedBroker<'_, B, N>,
     shares: &[Share],
     handles: Vec<WorkerHandle<B, N>>,
-    setup: PoolSetup<'_, T, Q, W, X>,
+    setup: PoolSetup<T, Q, W>,
     source: S,
     accepting: Closer<'_, B>,
     watch: &mut D,

@@ -285,10 +285,9 @@ impl<'a, 'g, B: Broker, N: HistoryName, T: Transport + Drop, Q: Poller<T>, R: Wa
 
     /// The connection in a cell goes on by a round this way, at the worker's moment, in which so many messages at most are handed to its client for the first time. Where
     /// that ends it, it is closed. What it waits for then; `None` where the cell is free.
-    pub fn round<X: Crossing>(
+    pub fn round(
         &mut self,
         cell: usize,
-        crossing: &X,
         worker: u32,
         buffer: &mut [u8],
         direction: Direction,
@@ -302,14 +301,13 @@ impl<'a, 'g, B: Broker, N: HistoryName, T: Transport + Drop, Q: Poller<T>, R: Wa
         if cell >= self.table.len() {
             return None;
         }
-        self.go_on(cell, crossing, worker, buffer, direction, most)
+        self.go_on(cell, worker, buffer, direction, most)
     }
 
     /// The same, where there is such a cell. What became of it is noted.
-    fn go_on<X: Crossing>(
+    fn go_on(
         &mut self,
         cell: usize,
-        crossing: &X,
         worker: u32,
         buffer: &mut [u8],
         direction: Direction,
@@ -327,7 +325,7 @@ impl<'a, 'g, B: Broker, N: HistoryName, T: Transport + Drop, Q: Poller<T>, R: Wa
             &mut self.table,
             &mut self.supply,
             cell,
-            crossing,
+            &self.poller,
             worker,
             now,
             buffer,

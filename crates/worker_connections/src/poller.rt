@@ -4,7 +4,7 @@ ghost use Rattle.worker_connections.specs.Arrivals.{IsWatched};
 ghost use Rattle.worker_connections.specs.PollerCalls.{PollerCall, Close, Wait as WaitCall, with_call};
 
 use std::sync::Wait;
-use transport::Transport;
+use transport::{Crossing, Transport};
 
 /// How a wait ended.
 #[derive(Clone, Copy, Debug, PartialEq, Eq)]
@@ -15,8 +15,8 @@ pub struct Woken {
     pub now: u64,
 }
 
-/// Where a worker waits for its connections, and for a call of the others, and learns the moment.
-pub trait Poller<T: Transport> {
+/// Where a worker waits for its connections, and for a call of the others, and learns the moment; and what its connections cross before they write.
+pub trait Poller<T: Transport>: Crossing {
     /// The calls of it by which transports were closed, each as it was then, and by which its worker waited, in order; where they are known.
     ghost poller_calls: { Self → Option (List (PollerCall T)) };
 

@@ -23,7 +23,7 @@ use std::alloc::Global;
 use std::rt::Clock as SystemClock;
 use std::sync::Wait;
 use std::thread::Threads;
-use transport::{Crossing, Source, Transport};
+use transport::{Source, Transport};
 use worker_connections::{Arrived, Poller, Returned, ServedCounts, WorkerHandle};
 
 /// What a pool gives back.
@@ -62,7 +62,6 @@ pub fn run<
     S: Source<T> + Drop + Send,
     Q: Poller<T> + Drop + Send,
     W: Wake + Drop + Send + Sync,
-    X: Crossing + Sync,
     I: Send,
     D: Watch<I> + Send,
     R: Threads + Wait + SystemClock + Sync,
@@ -71,7 +70,7 @@ pub fn run<
     alloc: Global,
     shared_broker: &SharedBroker<'_, B, N>,
     handles: Vec<WorkerHandle<B, N>>,
-    setup: PoolSetup<'_, T, Q, W, X>,
+    setup: PoolSetup<T, Q, W>,
     source: S,
     closer: Closer<'_, B>,
     watch: &mut D,
@@ -97,7 +96,6 @@ where
     let PoolSetup {
         unused_pollers,
         alarms,
-        crossing,
         max_inflight,
     } = setup;
     let Ok(
@@ -120,7 +118,6 @@ where
         handles,
         all_worker_parts,
         &mailboxes,
-        crossing,
         &sender,
     ) {
         Ok(hired) => hired,
@@ -150,7 +147,6 @@ fn hire<
     T: Transport + Drop,
     Q: Poller<T> + Drop,
     W: Wake + Drop,
-    X: Crossing,
     R: Wait,
 >(
     rt: &'a R,
@@ -159,11 +155,10 @@ fn hire<
     handles: Vec<WorkerHandle<B, N>>,
     all_worker_parts: Vec<WorkerParts<T, Q, W>>,
     mailboxes: &'a Mailboxes<W>,
-    crossing: &'a X,
     sender: &Sender<Arrived<T>>,
 ) -> Result<
     (
-        Vec<Worker<'a, 'g, B, N, T, Q, W, X, R>>,
+        Vec<Worker<'a, 'g, B, N, T, Q, W, R>>,
         Vec<WorkerHandle<B, N>>,
     ),
     Vec<WorkerHandle<B, N>>,
@@ -186,15 +181,7 @@ fn hire<
         let Some(handle) = handles.pop() else {
             unreachable!()
         };
-        match Worker::begin(
-            rt,
-            alloc,
-            shared_broker,
-            handle,
-            worker_parts,
-            mailboxes,
-            crossing,
-        ) {
+        match Worker::begin(rt, alloc, shared_broker, handle, worker_parts, mailboxes) {
             Ok(worker) => workers.push_reserved(worker),
             Err(handle) => {
                 handles.push_reserved(handle);
@@ -215,9 +202,8 @@ fn release<
     T: Transport + Drop,
     Q: Poller<T> + Drop,
     W: Wake + Drop,
-    X: Crossing,
     R: Wait,
->(workers: Vec<Worker<'a, 'g, B, N, T, Q, W, X, R>>, handles: &mut Vec<WorkerHandle<B, N>>)
+>(workers: Vec<Worker<'a, 'g, B, N, T, Q, W, R>>, handles: &mut Vec<WorkerHandle<B, N>>)
     requires { length handles.old.items + length workers.items ≤ vec_capacity handles.old }
     ensures { length handles.new.items ≡ length handles.old.items + length workers.entry.items }
 {
@@ -246,12 +232,11 @@ fn retire<
     S: Source<T> + Drop,
     Q: Poller<T> + Drop,
     W: Wake + Drop,
-    X: Crossing,
     R: Wait,
 >(
     shared_broker: &SharedBroker<'g, B, N>,
     acceptor: Acceptor<'a, B, T, S, W>,
-    workers: Vec<Worker<'a, 'g, B, N, T, Q, W, X, R>>,
+    workers: Vec<Worker<'a, 'g, B, N, T, Q, W, R>>,
     handles: Vec<WorkerHandle<B, N>>,
     receivers: Vec<Receiver<Arrived<T>>>,
     served: Vec<ServedCounts>,
@@ -307,11 +292,10 @@ fn gather<
     T: Transport + Drop,
     Q: Poller<T> + Drop,
     W: Wake + Drop,
-    X: Crossing,
     R: Wait,
 >(
     shared_broker: &SharedBroker<'g, B, N>,
-    workers: Vec<Worker<'a, 'g, B, N, T, Q, W, X, R>>,
+    workers: Vec<Worker<'a, 'g, B, N, T, Q, W, R>>,
     sender: &Sender<Arrived<T>>,
     handles: &mut Vec<WorkerHandle<B, N>>,
     receivers: &mut Vec<Receiver<Arrived<T>>>,

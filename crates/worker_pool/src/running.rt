@@ -13,7 +13,7 @@ use std::rt::Clock as SystemClock;
 use std::sync::Wait;
 use std::thread;
 use std::thread::Threads;
-use transport::{Crossing, Source, Transport};
+use transport::{Source, Transport};
 use worker_connections::Poller;
 
 /// Who does something in a thread.
@@ -45,9 +45,8 @@ impl<
     T: Transport + Drop,
     Q: Poller<T> + Drop,
     W: Wake + Drop,
-    X: Crossing,
     R: Wait,
-> Labour<R> for Worker<'a, 'g, B, N, T, Q, W, X, R> {
+> Labour<R> for Worker<'a, 'g, B, N, T, Q, W, R> {
     ghost use Rattle.worker_pool.specs.Workers.{HasRun};
 
     ghost has_run = { λ old new. HasRun old new };
@@ -71,7 +70,6 @@ pub(crate) fn run_all<
     S: Source<T> + Send,
     Q: Poller<T> + Drop + Send,
     W: Wake + Drop + Send + Sync,
-    X: Crossing + Sync,
     I: Send,
     D: Watch<I> + Send,
     R: Threads + Wait + SystemClock + Sync,
@@ -80,7 +78,7 @@ pub(crate) fn run_all<
     acceptor: &mut Acceptor<'a, B, T, S, W>,
     watch: &mut D,
     input: &mut I,
-    workers: &mut Vec<Worker<'a, 'g, B, N, T, Q, W, X, R>>,
+    workers: &mut Vec<Worker<'a, 'g, B, N, T, Q, W, R>>,
 )
 where
     B::Seen: Send + Sync,

@@ -95,15 +95,16 @@ fn told_of<B: Broker<Seen = Nobody>, N: HistoryName, S: Drop>(
     }
 }
 
-/// Where each of so many workers waits, and its clock.
-fn unused_pollers_for(
+/// Where each of so many workers waits, and its alarm.
+fn unused_pollers_for<'a, R: Clock>(
     alloc: Global,
     workers: usize,
-) -> Result<(Vec<UnusedPoller<Scripted, AlwaysReady>>, Vec<Silent>), AllocError> {
+    meeting: &'a Meeting<'a, R>,
+) -> Result<(Vec<UnusedPoller<Scripted, AlwaysReady<'a, R>>>, Vec<Silent>), AllocError> {
     let mut unused_pollers = Vec::with_capacity(alloc, workers)?;
     let mut alarms = Vec::with_capacity(alloc, workers)?;
     for _ in 0..workers {
-        unused_pollers.push(UnusedPoller::new(AlwaysReady::new(alloc)?))?;
+        unused_pollers.push(UnusedPoller::new(AlwaysReady::new(alloc, meeting)?))?;
         alarms.push(Silent)?;
     }
     Ok((unused_pollers, alarms))
@@ -126,7 +127,8 @@ fn attend<
     requires { broker.workers ≡ workers }
 {
     let count = usize::from(workers);
-    let Ok((unused_pollers, alarms)) = unused_pollers_for(alloc, count) else {
+    let meeting = Meeting::new(rt, workers);
+    let Ok((unused_pollers, alarms)) = unused_pollers_for(alloc, count, &meeting) else {
         broker.abandon();
         return None;
     };
@@ -137,7 +139,6 @@ fn attend<
     let setup = PoolSetup {
         unused_pollers,
         alarms,
-        crossing: &Meeting::new(rt, workers),
         max_inflight: MaxInflight::most(),
     };
     let served = serve(

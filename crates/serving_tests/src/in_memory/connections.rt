@@ -16,17 +16,22 @@ use worker_pool::Watch;
 /// How many connections a poller watches at most.
 const MOST: usize = 16;
 
-/// A poller of connections that may be read and written at any time: it never waits, and its worker is always called.
+/// A poller of connections that may be read and written at any time: it never waits, and its worker is always called. Workers meet before each write.
 #[derive(Drop)]
-pub(crate) struct AlwaysReady {
+pub(crate) struct AlwaysReady<'a, R> {
+    meeting: &'a Meeting<'a, R>,
     watched: Vec<bool>,
     next: usize,
 }
 
-impl AlwaysReady {
+impl<'a, R> AlwaysReady<'a, R> {
     /// One that watches nothing yet.
-    pub(crate) fn new(alloc: Global) -> Result<AlwaysReady, AllocError> {
+    pub(crate) fn new(
+        alloc: Global,
+        meeting: &'a Meeting<'a, R>,
+    ) -> Result<AlwaysReady<'a, R>, AllocError> {
         Ok(AlwaysReady {
+            meeting,
             watched: vec![in alloc; false; MOST]?,
             next: 0,
         })
@@ -50,7 +55,15 @@ impl AlwaysReady {
     }
 }
 
-impl Poller<Scripted> for AlwaysReady {
+impl<'a, R: Clock> Crossing for AlwaysReady<'a, R> {
+    ghost refuses = { λ _ _ _. ⊤ };
+
+    fn cross(&self, worker: u32, _turn: u32) -> bool {
+        self.meeting.lets_pass(worker)
+    }
+}
+
+impl<'a, R: Clock> Poller<Scripted> for AlwaysReady<'a, R> {
     ghost poller_calls = { λ _. None };
 
     fn register(&mut self, transport: &mut Scripted) -> Option<usize> {
@@ -67,7 +80,7 @@ impl Poller<Scripted> for AlwaysReady {
         }
     }
 
-    fn wait<R: Wait>(&mut self, rt: &R, at_most: u64) -> Woken {
+    fn wait<W: Wait>(&mut self, rt: &W, at_most: u64) -> Woken {
         let _ = rt;
         let _ = at_most;
         self.next = 0;
@@ -105,7 +118,7 @@ impl Watch<()> for NothingToWatch {
     fn run(&mut self, _input: &mut ()) {}
 }
 
-/// A crossing that workers pass together: it refuses each of them, pausing a millisecond, until all have asked.
+/// Where workers meet: it lets none of them pass, pausing a millisecond, until all have asked.
 #[derive(Drop)]
 pub(crate) struct Meeting<'a, R> {
     rt: &'a R,
@@ -122,17 +135,9 @@ impl<'a, R: Clock> Meeting<'a, R> {
             all: bit_of(u32::from(workers)).wrapping_sub(1),
         }
     }
-}
 
-/// The bit of a worker, of the first 64.
-fn bit_of(worker: u32) -> u64 {
-    1u64.checked_shl(worker).unwrap_or(0)
-}
-
-impl<'a, R: Clock> Crossing for Meeting<'a, R> {
-    ghost refuses = { λ _ _ _. ⊤ };
-
-    fn cross(&self, worker: u32, _turn: u32) -> bool {
+    /// Whether this worker may pass.
+    fn lets_pass(&self, worker: u32) -> bool {
         let own = bit_of(worker);
         let asked = self.asked.fetch_or(own, Ordering::SeqCst) | own;
         if asked == self.all {
@@ -141,4 +146,9 @@ impl<'a, R: Clock> Crossing for Meeting<'a, R> {
         thread::sleep(self.rt, Duration::from_millis(1));
         false
     }
+}
+
+/// The bit of a worker, of the first 64.
+fn bit_of(worker: u32) -> u64 {
+    1u64.checked_shl(worker).unwrap_or(0)
 }
