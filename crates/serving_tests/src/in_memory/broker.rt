@@ -63,8 +63,8 @@ fn count_reports(ended: Ended<'_>) -> usize {
 }
 
 /// What came of a broker that was served to its end.
-fn told_of<B: Broker<Seen = Nobody>, N: HistoryName, S: Drop>(
-    outcome: Outcome<'_, B, N, S, AlwaysReady>,
+fn told_of<B: Broker<Seen = Nobody>, N: HistoryName, S: Drop, Q: Drop>(
+    outcome: Outcome<'_, B, N, S, Q>,
 ) -> Told {
     let Outcome {
         ended,
