@@ -3,4 +3,4 @@ use Rattle.worker_connections.proofs.Opened.{tells_cell}
 use Rattle.worker_connections.proofs.admitting.take_in.Goals as goal
 
 pub returns-in-Some-clause-cell : goal.returns-in-Some-clause-cell
-returns-in-Some-clause-cell g c = tells_cell c.args.table.now _ _ _ _ _ c.admit.ensures.admits.2
+returns-in-Some-clause-cell g c = tells_cell c.args.table.now _ _ _ _ _ c.in-Some.ensures.admits.2
