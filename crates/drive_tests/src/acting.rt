@@ -1,4 +1,4 @@
-//! Scenarios: lines of events, and after `> ` what is written then.
+//! Servers, and what is written for the input that they are given.
 use bytes::Bytes;
 use conn_rules::MaxInflight;
 use drive::drive_lines;
@@ -12,17 +12,17 @@ use std::process::Abort;
 use text_io::RunError;
 
 /// A server in each of whose groups so many messages may wait, and on which these shares are bound.
-pub fn setup(rt: &impl Abort, alloc: Global, capacity: usize, shares: &[&'static str]) -> Setup {
+pub fn setup(rt: &impl Abort, alloc: Global, capacity: usize, shares: &[&str]) -> Setup {
     limited(rt, alloc, capacity, MaxInflight::most(), shares)
 }
 
 /// The same, where a client has so many messages unacknowledged at most.
-fn limited(
+pub fn limited(
     rt: &impl Abort,
     alloc: Global,
     capacity: usize,
     max_inflight: MaxInflight,
-    shares: &[&'static str],
+    shares: &[&str],
 ) -> Setup {
     let mut groups = Routes::new(alloc);
     for share in shares {
@@ -73,90 +73,4 @@ pub fn assert_same_bytes(rt: &impl Abort, written: &[u8], wanted: &[u8], name: &
 /// Two answers are the same.
 pub fn assert_same<T: PartialEq + Debug>(rt: &impl Abort, found: &T, wanted: &T) {
     assert_eq!(rt; found, wanted);
-}
-
-/// Runs a scenario on a server in each of whose groups 1,024 messages may wait, and on which no share is bound.
-pub fn run_alone(rt: &impl Abort, alloc: Global, lines: &str) {
-    run_with(rt, alloc, 1_024, &[], lines);
-}
-
-/// Runs a scenario: up to each of its events, and whole. What is written after an event is all that is new in the output, but for
-/// the reports.
-pub fn run_with(
-    rt: &impl Abort,
-    alloc: Global,
-    capacity: usize,
-    shares: &[&'static str],
-    scenario: &str,
-) {
-    run_limited(rt, alloc, capacity, MaxInflight::most(), shares, scenario);
-}
-
-/// The same, where a client has so many messages unacknowledged at most.
-pub fn run_limited(
-    rt: &impl Abort,
-    alloc: Global,
-    capacity: usize,
-    max_inflight: MaxInflight,
-    shares: &[&'static str],
-    scenario: &str,
-) {
-    let mut events = String::new(alloc);
-    let mut said = String::new(alloc);
-    for line in scenario.lines() {
-        match line.trim().strip_prefix("> ") {
-            Some(told) if told.starts_with("$share") => {}
-            Some(told) => add(rt, &mut said, told),
-            None => {
-                compare(
-                    rt,
-                    alloc,
-                    limited(rt, alloc, capacity, max_inflight, shares),
-                    &events,
-                    &said,
-                );
-                add(rt, &mut events, line.trim_start());
-            }
-        }
-    }
-    compare(
-        rt,
-        alloc,
-        limited(rt, alloc, capacity, max_inflight, shares),
-        &events,
-        &said,
-    );
-    conclude(
-        rt,
-        alloc,
-        limited(rt, alloc, capacity, max_inflight, shares),
-        &events,
-        scenario,
-    );
-}
-
-/// Adds a line.
-fn add(rt: &impl Abort, text: &mut String, line: &str) {
-    text.push_str(line).ok().expect(rt, "memory");
-    text.push('\n').ok().expect(rt, "memory");
-}
-
-/// Compares what is said in these events.
-fn compare(rt: &impl Abort, alloc: Global, setup: Setup, events: &str, said: &str) {
-    let output = written(alloc, setup, events).ok().expect(rt, "a run");
-    assert!(rt; output.as_slice().starts_with(said.as_bytes()));
-    let rest = &output.as_slice()[said.len()..];
-    assert!(rt; rest.is_empty() || rest.starts_with(b"$share"));
-}
-
-/// Compares all that is written of these events.
-fn conclude(rt: &impl Abort, alloc: Global, setup: Setup, events: &str, scenario: &str) {
-    let mut all = String::new(alloc);
-    for line in scenario.lines() {
-        if let Some(told) = line.trim().strip_prefix("> ") {
-            add(rt, &mut all, told);
-        }
-    }
-    let output = written(alloc, setup, events).ok().expect(rt, "a run");
-    assert_eq!(rt; output.as_slice(), all.as_bytes());
 }

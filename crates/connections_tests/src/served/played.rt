@@ -1,4 +1,4 @@
-//! The scenarios of `drive_tests`, each connection over a scripted transport: what is written to it is what `drive` writes.
+//! The scenarios of `scenarios`, each connection over a scripted transport: what is written to it is what `drive` writes.
 ghost use Rattle.std.specs.Prelude.{◌≡◌, ◌<◌, IfSome};
 ghost use Rattle.transport.specs.Counting.{no_counts};
 
