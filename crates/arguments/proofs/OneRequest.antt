@@ -6,7 +6,7 @@ use Rattle.mqtt_topic.specs.Names.{Share}
 use Rattle.clap.specs.Words.{IsAmong, Row, Text, fault_of, subcommand_of}
 use Rattle.clap.specs.Kinds.{Kinds}
 use Rattle.clap.specs.declared.error.kind.ErrorKind.{ErrorKind}
-use Rattle.local_server.specs.declared.setup.Setup.{Setup}
+use Rattle.conn_rules.specs.declared.setup.Setup.{Setup}
 use Rattle.arguments.specs.Groups.{Adds, AddsEach, RefusesOne, share_named}
 use Rattle.arguments.specs.CommandLine.{AreReadAs, AskFor, HaveNumber, IsSetupBy, SpellNoRequest, command_line, pairs_in}
 use Rattle.arguments.specs.declared.command.Request.{Request}

@@ -10,8 +10,7 @@ ghost use Rattle.arguments.specs.CommandLine.{AskFor, SpellNoRequest};
 use crate::groups::groups_of;
 use clap::error::ErrorKind;
 use clap::{Arg, ArgAction, ArgMatches, Command, Error, value_parser};
-use conn_rules::MaxInflight;
-use local_server::Setup;
+use conn_rules::{MaxInflight, Setup};
 use std::alloc::{AllocError, Global};
 
 /// What the words ask for.

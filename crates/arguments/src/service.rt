@@ -1,7 +1,7 @@
 //! What a broker on TCP begins with.
 ghost use Rattle.std.specs.Prelude.{◌≤◌};
 
-use local_server::Setup;
+use conn_rules::Setup;
 use std::net::Ipv4Addr;
 
 /// What a broker on TCP begins with.

@@ -11,7 +11,7 @@ use crate::groups::groups_of;
 use crate::service::ServeOptions;
 use clap::error::ErrorKind;
 use clap::{Arg, ArgMatches, Command, Error, value_parser};
-use local_server::Setup;
+use conn_rules::Setup;
 use std::alloc::{AllocError, Global};
 use std::net::Ipv4Addr;
 

@@ -1,7 +1,7 @@
 -- When a connection is late, and when its client is overdue.
 use Rattle.std.proofs.Common.{◌≡◌, ℕ, ◌+◌, ◌-◌, ◌*◌, ◌^◌, ◌<◌, ◌≤◌, ◌↔◌, ◌&&◌, nat_le, true, Option, Some, None, MatchOption, sym, ap, subst, ◌∙◌, arith}
 use Rattle.std.proofs.lemmas.Bool.{leb-true, le-leb, lt-ltb}
-use Rattle.conn_rules.specs.Ending.{is_overdue, is_late}
+use Rattle.conn_rules.specs.KeepAlive.{is_overdue, is_late}
 
 pub late : (opened now : ℕ) → (is_late (now - opened) ≡ true) ↔ (opened + 10000 ≤ now)
 late opened now = (λ is. let h = leb-true 10000 (now - opened) is in omega arith, λ past. le-leb 10000 (now - opened) (omega arith))

@@ -2,7 +2,7 @@
 use Rattle.std.specs.Prelude.{◌≡◌, ℕ, ◌-◌, true, length}
 use Rattle.session_desk.specs.declared.session.Membership.TheVariants.{Member}
 use Rattle.member_window.specs.Contents.{HasRoom, held_of}
-use Rattle.conn_rules.specs.Ending.{is_overdue, is_late}
+use Rattle.conn_rules.specs.KeepAlive.{is_overdue, is_late}
 use Rattle.conn_engine.specs.declared.phase.ConnPhase.{ConnPhase}
 use Rattle.conn_engine.specs.declared.phase.ConnPhase.TheVariants.{Unconnected, Waiting, Connected, Ended}
 

@@ -11,7 +11,8 @@ use Rattle.session_desk.specs.declared.session.Membership.{Membership}
 use Rattle.conn_rules.specs.declared.connecting.FirstAnswer.{FirstAnswer}
 use Rattle.conn_rules.specs.declared.connecting.FirstAnswer.TheVariants as first
 use Rattle.conn_rules.specs.Connecting.{first_answer, terms_of}
-use Rattle.conn_rules.specs.Ending.{fault_code, fault_refusal, is_overdue, is_late}
+use Rattle.conn_rules.specs.Faults.{fault_code, fault_refusal}
+use Rattle.conn_rules.specs.KeepAlive.{is_overdue, is_late}
 use Rattle.conn_rules.specs.Packets.{disconnect}
 use Rattle.conn_supply.specs.declared.reply.Then.{Then}
 use Rattle.conn_supply.specs.declared.reply.Then.TheVariants.{Go, Close, Kicked}

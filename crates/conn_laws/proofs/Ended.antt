@@ -12,7 +12,7 @@ use Rattle.session_desk.specs.declared.session.Session.{Session}
 use Rattle.conn_rules.specs.declared.connecting.FirstAnswer.{FirstAnswer}
 use Rattle.conn_rules.specs.declared.connecting.FirstAnswer.TheVariants as first
 use Rattle.conn_rules.specs.Connecting.{first_answer}
-use Rattle.conn_rules.specs.Ending.{fault_refusal}
+use Rattle.conn_rules.specs.Faults.{fault_refusal}
 use Rattle.conn_supply.specs.declared.reply.Then.{Then}
 use Rattle.conn_supply.specs.declared.reply.Then.TheVariants.{Go, Close, Kicked}
 use Rattle.conn_supply.specs.declared.reply.Reply.{Reply}

@@ -8,7 +8,8 @@ use Rattle.mqtt_packet.specs.declared.packet.Packet.TheVariants as packets
 use Rattle.conn_rules.specs.declared.connecting.FirstAnswer.{FirstAnswer}
 use Rattle.conn_rules.specs.declared.connecting.FirstAnswer.TheVariants as first
 use Rattle.conn_rules.specs.Connecting.{first_answer, is_given_expiry}
-use Rattle.conn_rules.specs.Ending.{fault_refusal, is_overdue, is_late}
+use Rattle.conn_rules.specs.Faults.{fault_refusal}
+use Rattle.conn_rules.specs.KeepAlive.{is_overdue, is_late}
 use Rattle.conn_supply.specs.declared.reply.Then.{Then}
 use Rattle.conn_supply.specs.declared.reply.Then.TheVariants.{Go, Close, Kicked}
 use Rattle.conn_supply.specs.declared.reply.Reply.{Reply}

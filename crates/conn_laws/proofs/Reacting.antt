@@ -21,7 +21,8 @@ use Rattle.conn_rules.specs.declared.publishing.PublishAnswer.{PublishAnswer}
 use Rattle.conn_rules.specs.declared.publishing.PublishAnswer.TheVariants as answers
 use Rattle.conn_rules.specs.Acknowledging.{fate_of}
 use Rattle.conn_rules.specs.Connecting.{first_answer}
-use Rattle.conn_rules.specs.Ending.{fault_refusal, is_late, is_overdue}
+use Rattle.conn_rules.specs.Faults.{fault_refusal}
+use Rattle.conn_rules.specs.KeepAlive.{is_late, is_overdue}
 use Rattle.conn_rules.specs.Publishing.{publish_answer, message_of}
 use Rattle.conn_rules.specs.Subscribing.{subscribe_refusal, unsubscribe_refusal}
 use Rattle.conn_supply.specs.declared.reply.Then.{Then}

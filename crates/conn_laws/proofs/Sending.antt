@@ -26,7 +26,7 @@ use Rattle.conn_rules.specs.declared.publishing.PublishAnswer.{PublishAnswer}
 use Rattle.conn_rules.specs.declared.publishing.PublishAnswer.TheVariants as answers
 use Rattle.conn_rules.specs.declared.terms.Terms.{Terms}
 use Rattle.conn_rules.specs.Connecting.{first_answer}
-use Rattle.conn_rules.specs.Ending.{fault_refusal}
+use Rattle.conn_rules.specs.Faults.{fault_refusal}
 use Rattle.conn_rules.specs.Packets.{accepting, refusing, puback, suback, unsuback, disconnect}
 use Rattle.conn_rules.specs.Publishing.{publish_answer}
 use Rattle.conn_rules.specs.Subscribing.{most_entries, subscribe_refusal, unsubscribe_refusal}

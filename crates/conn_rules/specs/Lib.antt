@@ -2,5 +2,6 @@ pub mod Connecting
 pub mod Publishing
 pub mod Acknowledging
 pub mod Subscribing
-pub mod Ending
+pub mod Faults
+pub mod KeepAlive
 pub mod Packets

@@ -11,18 +11,20 @@
 
 mod acknowledging;
 mod connecting;
-mod ending;
+mod faults;
+mod keep_alive;
 mod packets;
 mod publishing;
+mod setup;
 mod subscribing;
 mod terms;
 
 pub use acknowledging::fate_of;
 pub use connecting::{FirstAnswer, answer_to_connect, answer_to_first, offer};
-pub use ending::{
-    CONNECT_TIMEOUT, fault_code, fault_refusal, is_late, is_overdue, longest_silence,
-};
+pub use faults::{fault_code, fault_refusal};
+pub use keep_alive::{CONNECT_TIMEOUT, is_late, is_overdue, longest_silence};
 pub use packets::{accepting, disconnect, job, message_of, puback, refusing, suback, unsuback};
 pub use publishing::{PublishAnswer, answer_to_publish, closing_code, puback_code};
+pub use setup::Setup;
 pub use subscribing::{EntryAnswer, answer_to_entry, subscribe_refusal, unsubscribe_refusal};
 pub use terms::{MaxInflight, Terms, terms_of};

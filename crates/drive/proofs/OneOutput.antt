@@ -6,7 +6,7 @@ use Rattle.local_broker.specs.Broker.{Broker}
 use Rattle.local_broker.specs.Alike as brokers
 use Rattle.local_broker.proofs.OneBeginning.{one_told}
 use Rattle.local_server.specs.declared.event.TimedEvent.{TimedEvent}
-use Rattle.local_server.specs.declared.setup.Setup.{Setup}
+use Rattle.conn_rules.specs.declared.setup.Setup.{Setup}
 use Rattle.local_server.proofs.OneRun.{one_run}
 use Rattle.drive.specs.Transcripts.{ReportsFirst, IsTranscript, IsOutput}
 

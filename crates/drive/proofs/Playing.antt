@@ -6,7 +6,7 @@ use Rattle.client_table.specs.Clients.{StepOutput}
 use Rattle.local_server.specs.declared.event.TimedEvent.{TimedEvent}
 use Rattle.local_server.specs.Servers.{ServerState}
 use Rattle.local_server.specs.Happening.{Happens, HappensAll}
-use Rattle.local_server.specs.declared.setup.Setup.{Setup}
+use Rattle.conn_rules.specs.declared.setup.Setup.{Setup}
 use Rattle.local_server.specs.Servers.{IsNewServer}
 use Rattle.local_server.specs.Sizes.{AllWritable}
 use Rattle.local_server.proofs.Light.{writable}

@@ -11,7 +11,7 @@ use Rattle.client_table.specs.Clients.{StepOutput}
 use Rattle.local_broker.specs.Broker.{Broker}
 use Rattle.local_broker.specs.Reporting.{TellsLine}
 use Rattle.local_server.specs.declared.event.TimedEvent.{TimedEvent}
-use Rattle.local_server.specs.declared.setup.Setup.{Setup}
+use Rattle.conn_rules.specs.declared.setup.Setup.{Setup}
 use Rattle.local_server.specs.Servers.{ServerState, IsNewServer}
 use Rattle.local_server.specs.Happening.{HappensAll}
 use Rattle.hex.specs.Hex.{encode_lower}

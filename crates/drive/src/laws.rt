@@ -3,7 +3,7 @@
 ghost use Rattle.std.specs.Prelude.{◌≡◌, ℕ, List};
 ghost use Rattle.client_table.specs.Clients.{StepOutput};
 ghost use Rattle.local_server.specs.declared.event.TimedEvent.{TimedEvent};
-ghost use Rattle.local_server.specs.declared.setup.Setup.{Setup};
+ghost use Rattle.conn_rules.specs.declared.setup.Setup.{Setup};
 ghost use Rattle.drive.specs.Transcripts.{IsTranscript, IsDriveOutput, IsClientOutput};
 
 /// **Each input has one output**: a list of events has one transcript at most (`transcript`), and so each input has one output, of

@@ -1,8 +1,7 @@
 //! Servers, and what is written for the input that they are given.
 use bytes::Bytes;
-use conn_rules::MaxInflight;
+use conn_rules::{MaxInflight, Setup};
 use drive::drive_lines;
-use local_server::Setup;
 use mqtt_packet::Text;
 use mqtt_topic::{Routes, Share};
 use solo_output::solo;

@@ -1,7 +1,7 @@
 //! Runs of one client whose bytes are known.
 use crate::acting::{answered, assert_same_bytes, setup};
 use crate::subscriptions::SUBSCRIPTIONS;
-use local_server::Setup;
+use conn_rules::Setup;
 use std::alloc::{AllocError, Global};
 use std::process::Abort;
 

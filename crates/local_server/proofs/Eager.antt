@@ -11,7 +11,7 @@ use Rattle.local_broker.proofs.ReturnedFirst.{begins_first, stays_first, stays_f
 use Rattle.local_server.specs.declared.event.ServerEvent.{ServerEvent}
 use Rattle.local_server.specs.declared.event.ServerEvent.TheVariants as events
 use Rattle.local_server.specs.declared.event.TimedEvent.{TimedEvent}
-use Rattle.local_server.specs.declared.setup.Setup.{Setup}
+use Rattle.conn_rules.specs.declared.setup.Setup.{Setup}
 use Rattle.local_server.specs.Servers.{Clients, ServerState, IsNewServer}
 use Rattle.local_server.specs.Happening.{slot_of, EndsFirst, Does, DoesIf, Happens, HappensAll}
 use Rattle.local_server.specs.Eager.{AllHandReturnedFirst}

@@ -12,7 +12,7 @@ use Rattle.dispatch_core.proofs.ToldLaws.{firsts_run}
 use Rattle.local_group.specs.Groups.{Group}
 use Rattle.local_group.proofs.Fates.{one_fate}
 use Rattle.local_server.specs.declared.event.TimedEvent.{TimedEvent}
-use Rattle.local_server.specs.declared.setup.Setup.{Setup}
+use Rattle.conn_rules.specs.declared.setup.Setup.{Setup}
 use Rattle.local_server.specs.Servers.{ServerState, IsNewServer}
 use Rattle.local_server.specs.GoingThrough.{GoesThrough}
 use Rattle.local_server.specs.Headline.{IsOneFirst, KeepsPromises, HoldsTheHeadline}

@@ -33,7 +33,7 @@ use Rattle.local_broker.proofs.Happened.{new_desk}
 use Rattle.local_server.specs.declared.event.ServerEvent.{ServerEvent}
 use Rattle.local_server.specs.declared.event.ServerEvent.TheVariants as events
 use Rattle.local_server.specs.declared.event.TimedEvent.{TimedEvent}
-use Rattle.local_server.specs.declared.setup.Setup.{Setup}
+use Rattle.conn_rules.specs.declared.setup.Setup.{Setup}
 use Rattle.local_server.specs.Servers.{Clients, ServerState, IsNewServer}
 use Rattle.local_server.specs.Addressed.{AreNumbered}
 use Rattle.local_server.specs.Happening.{EndsAt, EndsFirst, Does, DoesIf, HappensAll}

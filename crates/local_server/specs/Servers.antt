@@ -4,7 +4,7 @@ use Rattle.std.specs.Coded.{Coded, code_by, coded×}
 use Rattle.client_table.specs.Clients.{ClientState}
 use Rattle.local_broker.specs.Places.{GroupPlace}
 use Rattle.local_broker.specs.Broker.{Broker, IsNewBroker}
-use Rattle.local_server.specs.declared.setup.Setup.{Setup}
+use Rattle.conn_rules.specs.declared.setup.Setup.{Setup}
 
 -- for each number the client of that connection, where one is open
 abbrev pub Clients : Type 0

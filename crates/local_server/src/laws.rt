@@ -8,7 +8,7 @@ ghost use Rattle.local_broker.specs.Broker.{is_open};
 ghost use Rattle.local_server.specs.declared.event.ServerEvent.{ServerEvent};
 ghost use Rattle.local_server.specs.declared.event.ServerEvent.TheVariants as events;
 ghost use Rattle.local_server.specs.declared.event.TimedEvent.{TimedEvent};
-ghost use Rattle.local_server.specs.declared.setup.Setup.{Setup};
+ghost use Rattle.conn_rules.specs.declared.setup.Setup.{Setup};
 ghost use Rattle.local_server.specs.Deliveries.{HandsOutWhatIsSent};
 ghost use Rattle.local_server.specs.Servers.{HasNoneBelow, ServerState, IsNewServer};
 ghost use Rattle.local_server.specs.Alike.{AreAlike};

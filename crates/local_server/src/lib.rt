@@ -17,9 +17,7 @@ mod event;
 pub mod laws;
 mod number;
 mod server;
-mod setup;
 
 pub use event::{ServerEvent, TimedEvent};
 pub use number::{ConnectionNumber, OutOfRange};
 pub use server::Server;
-pub use setup::Setup;

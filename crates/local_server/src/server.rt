@@ -7,10 +7,9 @@ ghost use Rattle.local_server.specs.Servers.{IsNewServer};
 ghost use Rattle.local_server.specs.Happening.{ClosesAll, Does, Happens};
 
 use crate::event::ServerEvent;
-use crate::setup::Setup;
 use client_table::{CLIENTS, ClientTable, StepOutput};
 use conn_engine::Opening;
-use conn_rules::MaxInflight;
+use conn_rules::{MaxInflight, Setup};
 use conn_supply::{NoMemory, Supply};
 use local_broker::{LocalPlace, LocalSupply};
 use mqtt_topic::Share;

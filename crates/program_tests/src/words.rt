@@ -1,7 +1,7 @@
 //! Words, and what they ask for.
 use crate::asserting::assert_text;
 use arguments::{Request, arguments};
-use local_server::Setup;
+use conn_rules::Setup;
 use std::alloc::{AllocError, Global};
 use std::test::Fail;
 

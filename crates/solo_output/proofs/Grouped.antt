@@ -7,7 +7,7 @@ use Rattle.mqtt_packet.specs.declared.packet.Packet.{Packet}
 use Rattle.mqtt_topic.specs.Names.{Share}
 use Rattle.mqtt_topic.specs.Routes.{AreDistinct}
 use Rattle.mqtt_topic.proofs.RouteLaws.{none_has, distinct_more}
-use Rattle.local_server.specs.declared.setup.Setup.{Setup}
+use Rattle.conn_rules.specs.declared.setup.Setup.{Setup}
 use Rattle.solo_output.specs.Groups.{SoloState, HandOut, Bound, bound, opening, shares_of, accepted_in, handed_in, open_identifiers, acknowledges, refuses, with_message, with_share}
 use Rattle.solo_output.specs.Replies.{solo_steps}
 use Rattle.solo_output.specs.Report.{counts_of}

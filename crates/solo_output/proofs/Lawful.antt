@@ -15,7 +15,7 @@ use Rattle.session_desk.specs.declared.session.Membership.TheVariants.{NotMember
 use Rattle.conn_rules.specs.declared.connecting.FirstAnswer.{FirstAnswer}
 use Rattle.conn_rules.specs.declared.connecting.FirstAnswer.TheVariants as first
 use Rattle.conn_rules.specs.Connecting.{or_else, connect_answer}
-use Rattle.local_server.specs.declared.setup.Setup.{Setup}
+use Rattle.conn_rules.specs.declared.setup.Setup.{Setup}
 use Rattle.solo_output.specs.Groups.{SoloState, HandOut, Phase, opening, accepted_in, waiting_in, open_identifiers, unacknowledged, with_hand_out}
 use Rattle.solo_output.specs.Groups.Phase.{Unconnected, Connected, Closed}
 use Rattle.solo_output.specs.HandOuts.{SoloStep, quota, least_free, due, hand_out, sends_nothing, left_with, deliver_to, deliver_in, deliver}

@@ -22,7 +22,7 @@ use Rattle.conn_rules.specs.Connecting.{connect_answer, is_given_expiry}
 use Rattle.conn_rules.specs.Packets.{disconnect as disconnecting, suback, unsuback}
 use Rattle.conn_rules.specs.Publishing.{publish_answer, message_of}
 use Rattle.conn_rules.specs.Subscribing.{subscribe_refusal, unsubscribe_refusal}
-use Rattle.local_server.specs.declared.setup.Setup.{Setup}
+use Rattle.conn_rules.specs.declared.setup.Setup.{Setup}
 use Rattle.solo_output.specs.Groups.{SoloState, Bound, HandOut, Phase, opening, shares_of, open_identifiers, unacknowledged}
 use Rattle.solo_output.specs.Groups.Phase.{Unconnected, Connected, Closed}
 use Rattle.solo_output.specs.HandOuts.{deliver}

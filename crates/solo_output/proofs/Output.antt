@@ -11,7 +11,7 @@ use Rattle.mqtt_wire.proofs.StreamLaws.{one_reading, exists_reading}
 use Rattle.client_table.specs.Clients.{StepOutput}
 use Rattle.local_broker.specs.Broker.{Broker}
 use Rattle.local_server.specs.declared.event.TimedEvent.{TimedEvent}
-use Rattle.local_server.specs.declared.setup.Setup.{Setup}
+use Rattle.conn_rules.specs.declared.setup.Setup.{Setup}
 use Rattle.local_server.specs.Happening.{HappensAll}
 use Rattle.drive.specs.Streams.{client_script_of}
 use Rattle.drive.specs.Transcripts.{ReportsFirst, client_lines, IsClientOutput, Writes, BeginsTo}

@@ -9,7 +9,7 @@ use Rattle.mqtt_packet.specs.declared.packet.Packet.TheVariants as packets
 use Rattle.conn_rules.specs.declared.connecting.FirstAnswer.{FirstAnswer}
 use Rattle.conn_rules.specs.declared.connecting.FirstAnswer.TheVariants as first
 use Rattle.conn_rules.specs.Connecting.{first_answer, terms_of, is_given_expiry}
-use Rattle.conn_rules.specs.Ending.{fault_code, fault_refusal}
+use Rattle.conn_rules.specs.Faults.{fault_code, fault_refusal}
 use Rattle.conn_rules.specs.Packets.{accepting, refusing, disconnect}
 use Rattle.solo_output.specs.Groups.{SoloState, Phase, with_puback}
 use Rattle.solo_output.specs.Groups.Phase.{Unconnected, Connected, Closed}

@@ -13,7 +13,7 @@ use Rattle.conn_rules.specs.declared.publishing.PublishAnswer.{PublishAnswer}
 use Rattle.conn_rules.specs.declared.publishing.PublishAnswer.TheVariants as answers
 use Rattle.conn_rules.specs.Packets.{job}
 use Rattle.conn_rules.specs.Publishing.{publish_answer, message_of}
-use Rattle.local_server.specs.declared.setup.Setup.{Setup}
+use Rattle.conn_rules.specs.declared.setup.Setup.{Setup}
 use Rattle.solo_output.specs.Groups.{SoloState, Phase, HandOut, opening}
 use Rattle.solo_output.specs.Groups.Phase.{Unconnected, Connected, Closed}
 use Rattle.solo_output.specs.HandOuts.{SoloStep}

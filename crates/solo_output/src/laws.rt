@@ -20,7 +20,7 @@ ghost use Rattle.conn_rules.specs.declared.publishing.PublishAnswer.TheVariants.
 ghost use Rattle.conn_rules.specs.Connecting.{or_else};
 ghost use Rattle.conn_rules.specs.Packets.{puback};
 ghost use Rattle.conn_rules.specs.Publishing.{publish_answer, puback_code};
-ghost use Rattle.local_server.specs.declared.setup.Setup.{Setup};
+ghost use Rattle.conn_rules.specs.declared.setup.Setup.{Setup};
 ghost use Rattle.drive.specs.Streams.{client_script_of};
 ghost use Rattle.drive.specs.Transcripts.{IsClientOutput};
 ghost use Rattle.solo_output.specs.Groups.{SoloState, HandOut, opening, shares_of, accepted_in, handed_in, open_identifiers, waiting_in, unacknowledged};

@@ -5,8 +5,8 @@ ghost use Rattle.drive.specs.Transcripts.{Writes, BeginsTo};
 ghost use Rattle.solo_output.specs.Output.{IsOutputFor};
 ghost use Rattle.solo_output.specs.Streams.{stream_of};
 
+use conn_rules::Setup;
 use drive::drive_client;
-use local_server::Setup;
 use std::alloc::Global;
 use std::io::{Read, Write};
 use text_io::RunError;

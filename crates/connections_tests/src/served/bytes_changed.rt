@@ -1,8 +1,7 @@
 //! Streams that end after each byte, and streams in which each byte is replaced: what is written is what `solo` writes.
 use crate::served::acting::{STREAM, Scenario, assert_served, assert_written, serve_alone};
-use conn_rules::MaxInflight;
+use conn_rules::{MaxInflight, Setup};
 use conn_service::Served;
-use local_server::Setup;
 use mqtt_topic::Routes;
 use solo_output::solo;
 use std::alloc::{AllocError, Global};

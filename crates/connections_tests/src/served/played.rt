@@ -4,12 +4,11 @@ ghost use Rattle.transport.specs.Counting.{no_counts};
 
 use bytes::Bytes;
 use conn_engine::Opening;
-use conn_rules::MaxInflight;
+use conn_rules::{MaxInflight, Setup};
 use conn_service::{Direction, Round, Service};
 use conn_supply::{HoldingPlace, Supply};
 use drive::drive_lines;
 use local_broker::{LocalPlace, LocalSupply};
-use local_server::Setup;
 use mqtt_packet::Text;
 use mqtt_topic::{Routes, Share};
 use scenarios::{Scenario, ScenarioEvent, What, all_scenarios};

@@ -1,8 +1,8 @@
-//! What a server begins with.
-use conn_rules::MaxInflight;
+//! What a broker begins with.
+use crate::terms::MaxInflight;
 use mqtt_topic::Routes;
 
-/// What a server begins with.
+/// What a broker begins with.
 #[derive(Drop)]
 pub struct Setup {
     /// How many messages may wait in the queue of each group.

@@ -1,34 +1,9 @@
-//! When and how a connection is closed by a fault of its stream or by time (sections 3.1.2.10, 3.1.4 and 4.13).
+//! How long a client may be silent, and a connection without a CONNECT (sections 3.1.2.10 and 3.1.4).
 ghost use Rattle.std.specs.Prelude.{◌≡◌, ◌<◌, ◌*◌, MatchOption};
-ghost use Rattle.conn_rules.specs.Ending.{fault_code, fault_refusal, is_overdue, is_late};
-
-use mqtt_fields::StreamFault;
-use mqtt_packet::{ConnectRefusal, ReasonCode};
+ghost use Rattle.conn_rules.specs.KeepAlive.{is_overdue, is_late};
 
 /// How long a connection may be without a CONNECT, in milliseconds.
 pub const CONNECT_TIMEOUT: u64 = 10_000;
-
-/// The Reason Code of the DISCONNECT with which a fault closes a connection.
-pub fn fault_code(fault: StreamFault) -> ReasonCode
-    ensures { result ≡ fault_code fault }
-{
-    match fault {
-        StreamFault::Malformed => ReasonCode::MALFORMED_PACKET,
-        StreamFault::Protocol => ReasonCode::PROTOCOL_ERROR,
-        StreamFault::TooLarge => ReasonCode::PACKET_TOO_LARGE,
-    }
-}
-
-/// The refusal of the CONNACK with which a fault closes a connection before its CONNECT; `None` where it is closed with no
-/// answer.
-pub fn fault_refusal(fault: StreamFault) -> Option<ConnectRefusal>
-    ensures { result ≡ fault_refusal fault }
-{
-    match fault {
-        StreamFault::Protocol => Some(ConnectRefusal::ProtocolError),
-        StreamFault::Malformed | StreamFault::TooLarge => None,
-    }
-}
 
 /// Whether a client is overdue whose keep alive is so many seconds and whose last packet came so many milliseconds ago: after one
 /// and a half times its keep alive (section 3.1.2.10).
