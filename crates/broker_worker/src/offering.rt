@@ -5,7 +5,6 @@ ghost use Rattle.broker_worker.specs.Offering.{GoesOn, IsAsked, IsOffered, Offer
 ghost use Rattle.worker_connections.specs.Serving.{Rounds};
 
 use crate::worker::{READ_SIZE, Worker};
-use bell::Wake;
 use broker_groups::Broker;
 use call_history::HistoryName;
 use conn_service::{Direction, Round};
@@ -14,16 +13,15 @@ use transport::Transport;
 use worker_bells::SLOTS;
 use worker_connections::Poller;
 
-impl<
+impl<'a, 'g, B: Broker, N: HistoryName, T: Transport + Drop, Q: Poller<T> + Drop, R: Wait> Worker<
     'a,
     'g,
-    B: Broker,
-    N: HistoryName,
-    T: Transport + Drop,
-    Q: Poller<T> + Drop,
-    W: Wake + Drop,
-    R: Wait,
-> Worker<'a, 'g, B, N, T, Q, W, R> {
+    B,
+    N,
+    T,
+    Q,
+    R,
+> {
     /// In a sweep, offers a message to a member of each group.
     pub(crate) fn offer_if(&mut self, sweeps: bool, buffer: &mut [u8; READ_SIZE])
         ensures goes { Rounds self.old.connections self.new.connections }

@@ -15,16 +15,15 @@ use transport::Transport;
 use worker_bells::Mailboxes;
 use worker_connections::Poller;
 
-impl<
+impl<'a, 'g, B: Broker, N: HistoryName, T: Transport + Drop, Q: Poller<T> + Drop, R: Wait> Worker<
     'a,
     'g,
-    B: Broker,
-    N: HistoryName,
-    T: Transport + Drop,
-    Q: Poller<T> + Drop,
-    W: Wake + Drop,
-    R: Wait,
-> Worker<'a, 'g, B, N, T, Q, W, R> {
+    B,
+    N,
+    T,
+    Q,
+    R,
+> {
     /// Connections that may be read or written are due.
     pub(crate) fn mark_ready(&mut self)
         ensures connections { self.new.connections ≡ self.old.connections }

@@ -5,7 +5,6 @@ ghost use Rattle.worker_bells.specs.Ringing.{AreRung};
 ghost use Rattle.worker_connections.specs.Serving.{Rounds, wakes_of, with_wakes};
 
 use crate::worker::{READ_SIZE, Worker};
-use bell::Wake;
 use broker_groups::Broker;
 use call_history::HistoryName;
 use conn_service::Direction;
@@ -192,16 +191,15 @@ impl Sharing {
     }
 }
 
-impl<
+impl<'a, 'g, B: Broker, N: HistoryName, T: Transport + Drop, Q: Poller<T> + Drop, R: Wait> Worker<
     'a,
     'g,
-    B: Broker,
-    N: HistoryName,
-    T: Transport + Drop,
-    Q: Poller<T> + Drop,
-    W: Wake + Drop,
-    R: Wait,
-> Worker<'a, 'g, B, N, T, Q, W, R> {
+    B,
+    N,
+    T,
+    Q,
+    R,
+> {
     /// Finds for each group in which something has changed how many of the messages that wait are for its own members.
     pub(crate) fn plan(&mut self)
         ensures same { self.new.connections ≡ self.old.connections }

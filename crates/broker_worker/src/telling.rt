@@ -16,16 +16,15 @@ use transport::Transport;
 use worker_bells::{Mailboxes, SLOTS};
 use worker_connections::Poller;
 
-impl<
+impl<'a, 'g, B: Broker, N: HistoryName, T: Transport + Drop, Q: Poller<T> + Drop, R: Wait> Worker<
     'a,
     'g,
-    B: Broker,
-    N: HistoryName,
-    T: Transport + Drop,
-    Q: Poller<T> + Drop,
-    W: Wake + Drop,
-    R: Wait,
-> Worker<'a, 'g, B, N, T, Q, W, R> {
+    B,
+    N,
+    T,
+    Q,
+    R,
+> {
     /// Tells the others what its connections did that they may wait for: it rings for as many workers as there are messages for each group, and calls whom a
     /// session concerns.
     pub(crate) fn tell(&mut self)

@@ -32,20 +32,11 @@ pub(crate) const END_PAUSE: u64 = 1;
 /// What a worker has: its connections, with what they ask of the broker and where it waits for them, and how it calls others and is called.
 ///
 /// Contracts see it as a `WorkerState`: its connections, and what it has of the bells.
-pub struct Worker<
-    'a,
-    'g,
-    B: Broker,
-    N: HistoryName,
-    T: Transport + Drop,
-    Q: Poller<T>,
-    W,
-    R: Wait,
-> {
+pub struct Worker<'a, 'g, B: Broker, N: HistoryName, T: Transport + Drop, Q: Poller<T>, R: Wait> {
     pub(crate) number: usize,
     pub(crate) connections: Connections<'a, 'g, B, N, T, Q, R>,
-    pub(crate) own_bells: WorkerBells<W>,
-    pub(crate) mailboxes: &'a Mailboxes<W>,
+    pub(crate) own_bells: WorkerBells<Q::Alarm>,
+    pub(crate) mailboxes: &'a Mailboxes<Q::Alarm>,
     pub(crate) due: Marks,
     // The broker closes.
     pub(crate) closing: bool,
@@ -54,8 +45,8 @@ pub struct Worker<
     pub(crate) sharing: Sharing,
 }
 
-impl<'a, 'g, B: Broker, N: HistoryName, T: Transport + Drop, Q: Poller<T>, W, R: Wait> Model
-    for Worker<'a, 'g, B, N, T, Q, W, R> {
+impl<'a, 'g, B: Broker, N: HistoryName, T: Transport + Drop, Q: Poller<T>, R: Wait> Model
+    for Worker<'a, 'g, B, N, T, Q, R> {
     ghost use Rattle.broker_worker.specs.Resting.{WorkerState};
 
     ghost Value = { WorkerState T };
@@ -63,16 +54,15 @@ impl<'a, 'g, B: Broker, N: HistoryName, T: Transport + Drop, Q: Poller<T>, W, R:
     ghost view = { λ w. record { connections = w.connections; bells = w.own_bells } };
 }
 
-impl<
+impl<'a, 'g, B: Broker, N: HistoryName, T: Transport + Drop, Q: Poller<T> + Drop, R: Wait> Worker<
     'a,
     'g,
-    B: Broker,
-    N: HistoryName,
-    T: Transport + Drop,
-    Q: Poller<T> + Drop,
-    W: Wake + Drop,
-    R: Wait,
-> Worker<'a, 'g, B, N, T, Q, W, R> {
+    B,
+    N,
+    T,
+    Q,
+    R,
+> {
     /// A worker without connections.
     ///
     /// Those that it opens have the numbers from `number * share` of its parts on, and are `share` at most. It receives them through the channel of its parts, publishes through the ports
@@ -86,9 +76,9 @@ impl<
         alloc: Global,
         shared_broker: &'a SharedBroker<'g, B, N>,
         handle: WorkerHandle<B, N>,
-        worker_parts: WorkerParts<T, Q, W>,
-        mailboxes: &'a Mailboxes<W>,
-    ) -> Result<Worker<'a, 'g, B, N, T, Q, W, R>, WorkerHandle<B, N>>
+        worker_parts: WorkerParts<T, Q>,
+        mailboxes: &'a Mailboxes<Q::Alarm>,
+    ) -> Result<Worker<'a, 'g, B, N, T, Q, R>, WorkerHandle<B, N>>
         requires received { worker_parts.receiver.received ≡ [] }
         requires unused { IsUnused handle.ports handle.desk }
         ensures fresh { IfOk result (λ worker. AreFresh worker_parts.receiver handle.ports worker.connections) }
@@ -127,10 +117,10 @@ impl<
     fn of(
         number: usize,
         connections: Connections<'a, 'g, B, N, T, Q, R>,
-        own_bells: WorkerBells<W>,
+        own_bells: WorkerBells<Q::Alarm>,
         due: Marks,
-        mailboxes: &'a Mailboxes<W>,
-    ) -> Worker<'a, 'g, B, N, T, Q, W, R>
+        mailboxes: &'a Mailboxes<Q::Alarm>,
+    ) -> Worker<'a, 'g, B, N, T, Q, R>
         ensures { result.connections ≡ connections.entry }
     {
         Worker {

@@ -5,7 +5,6 @@ ghost use Rattle.broker_worker.specs.Parts.{ArePartsOf};
 ghost use Rattle.worker_connections.specs.PollerCalls.{HasNoCalls};
 
 use crate::marks::Marks;
-use bell::Wake;
 use conn_channel::{Receiver, Sender};
 use conn_supply::NoMemory;
 use std::alloc::Global;
@@ -58,17 +57,17 @@ impl<T: Transport, Q: Poller<T>> UnusedPoller<T, Q> {
 
 /// What the worker of a number has for itself. Contracts see it as a `PartsState`: its number, how many connections it has at most, and its end of the channel.
 #[derive(Drop)]
-pub struct WorkerParts<T: Transport + Drop, Q: Poller<T>, W> {
+pub struct WorkerParts<T: Transport + Drop, Q: Poller<T>> {
     pub(crate) number: usize,
     pub(crate) share: u16,
     pub(crate) unused_poller: UnusedPoller<T, Q>,
     pub(crate) receiver: Receiver<Arrived<T>>,
-    pub(crate) own_bells: WorkerBells<W>,
+    pub(crate) own_bells: WorkerBells<Q::Alarm>,
     pub(crate) due: Marks,
     pub(crate) members: Members,
 }
 
-impl<T: Transport + Drop, Q: Poller<T>, W> Model for WorkerParts<T, Q, W> {
+impl<T: Transport + Drop, Q: Poller<T>> Model for WorkerParts<T, Q> {
     ghost use Rattle.std.specs.Prelude.{◌≡◌, length};
     ghost use Rattle.broker_worker.specs.Parts.{PartsState};
 
@@ -84,13 +83,13 @@ impl<T: Transport + Drop, Q: Poller<T>, W> Model for WorkerParts<T, Q, W> {
 /// # Errors
 ///
 /// Out of memory.
-pub fn all_worker_parts<T: Transport + Drop, Q: Poller<T> + Drop, W: Wake + Drop>(
+pub fn all_worker_parts<T: Transport + Drop, Q: Poller<T> + Drop>(
     alloc: Global,
     unused_pollers: Vec<UnusedPoller<T, Q>>,
-    mailboxes: &Mailboxes<W>,
+    mailboxes: &Mailboxes<Q::Alarm>,
     sender: &Sender<Arrived<T>>,
     receivers: Vec<Receiver<Arrived<T>>>,
-) -> Result<Vec<WorkerParts<T, Q, W>>, NoMemory>
+) -> Result<Vec<WorkerParts<T, Q>>, NoMemory>
     requires receivers { AreReceivers sender.now.channel (length unused_pollers.items) receivers.items }
     ensures count { IfOk result (λ all_worker_parts. length all_worker_parts.items ≡ length unused_pollers.items) }
     ensures each { IfOk result (λ all_worker_parts. (share : ℕ) × ArePartsOf (length unused_pollers.items) share sender.now.channel all_worker_parts.items) }
@@ -111,13 +110,13 @@ pub fn all_worker_parts<T: Transport + Drop, Q: Poller<T> + Drop, W: Wake + Drop
 }
 
 /// The parts of all workers, the last worker's first.
-fn add_all_worker_parts<T: Transport + Drop, Q: Poller<T> + Drop, W: Drop>(
+fn add_all_worker_parts<T: Transport + Drop, Q: Poller<T> + Drop>(
     alloc: Global,
-    all_worker_parts: &mut Vec<WorkerParts<T, Q, W>>,
+    all_worker_parts: &mut Vec<WorkerParts<T, Q>>,
     unused_pollers: &mut Vec<UnusedPoller<T, Q>>,
     sender: &Sender<Arrived<T>>,
     receivers: &mut Vec<Receiver<Arrived<T>>>,
-    all_own_bells: &mut Vec<WorkerBells<W>>,
+    all_own_bells: &mut Vec<WorkerBells<Q::Alarm>>,
 ) -> Result<(), NoMemory>
     requires none { all_worker_parts.old.items ≡ [] }
     requires receivers { AreReceivers sender.now.channel (length unused_pollers.old.items) receivers.old.items }
@@ -144,14 +143,14 @@ fn add_all_worker_parts<T: Transport + Drop, Q: Poller<T> + Drop, W: Drop>(
 }
 
 /// The parts of one more, the worker of a number.
-fn add_worker_parts<T: Transport + Drop, Q: Poller<T> + Drop, W: Drop>(
+fn add_worker_parts<T: Transport + Drop, Q: Poller<T> + Drop>(
     alloc: Global,
-    all_worker_parts: &mut Vec<WorkerParts<T, Q, W>>,
+    all_worker_parts: &mut Vec<WorkerParts<T, Q>>,
     number: usize,
     share: u16,
     unused_poller: UnusedPoller<T, Q>,
     receiver: Receiver<Arrived<T>>,
-    own_bells: WorkerBells<W>,
+    own_bells: WorkerBells<Q::Alarm>,
 ) -> Result<(), NoMemory>
     ensures { OnOk result (all_worker_parts.new.items ≡ all_worker_parts.old.items ++ record { number = number; share = share; receiver = receiver } ∷ []) }
 {

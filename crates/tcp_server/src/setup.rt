@@ -10,11 +10,11 @@ use std::alloc::Global;
 use std::net::Net;
 use std::rt::Clock as SystemClock;
 use std::time::Instant;
-use tcp_edge::{Alarm, Reactor, Socket};
+use tcp_edge::{Reactor, Socket};
 use worker_pool::PoolSetup;
 
 /// A reactor with a clock and an alarm for each worker.
-pub(crate) type SocketSetup<'a, R> = PoolSetup<Socket<TcpStream>, SocketPoller<'a, R>, Alarm>;
+pub(crate) type SocketSetup<'a, R> = PoolSetup<Socket<TcpStream>, SocketPoller<'a, R>>;
 
 /// What so many workers need, whose clocks begin now. `None` where an allocation fails, or the system refuses.
 pub(crate) fn socket_setup<'a, R: Net + SystemClock>(

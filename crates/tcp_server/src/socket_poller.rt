@@ -6,7 +6,7 @@ use mio::net::TcpStream;
 use std::rt::Clock as SystemClock;
 use std::sync::Wait;
 use std::time::Duration;
-use tcp_edge::{Reactor, Socket};
+use tcp_edge::{Alarm, Reactor, Socket};
 use transport::Crossing;
 use worker_connections::{Poller, Woken};
 
@@ -34,6 +34,8 @@ impl<'a, R: SystemClock> Crossing for SocketPoller<'a, R> {
 }
 
 impl<'a, R: SystemClock> Poller<Socket<TcpStream>> for SocketPoller<'a, R> {
+    type Alarm = Alarm;
+
     ghost poller_calls = { λ _. None };
 
     fn register(&mut self, transport: &mut Socket<TcpStream>) -> Option<usize> {

@@ -15,7 +15,6 @@ ghost use Rattle.threaded_broker.specs.Shares.{IsBoundIn};
 use crate::closing::{close, take_in};
 use crate::opening::{BrokerParts, OpenBroker, abandon};
 use crate::shares::{bind_all, copy_all};
-use bell::Wake;
 use broker_groups::{Broker, BrokerPlace, Ended, Ports};
 use call_history::HistoryName;
 use conn_supply::NoMemory;
@@ -117,7 +116,6 @@ pub fn serve<
     T: Transport + Drop + Send,
     S: Source<T> + Drop + Send,
     Q: Poller<T> + Drop + Send,
-    W: Wake + Drop + Send + Sync,
     I: Send,
     D: Watch<I> + Send,
     R: Threads + Wait + SystemClock + Sync,
@@ -126,7 +124,7 @@ pub fn serve<
     alloc: Global,
     broker: OpenBroker<'g, B, N>,
     shares: &[Share],
-    setup: PoolSetup<T, Q, W>,
+    setup: PoolSetup<T, Q>,
     source: S,
     closers: Closers<'_, B>,
     watch: &mut D,
@@ -134,6 +132,7 @@ pub fn serve<
 ) -> Result<Outcome<'g, B, N, S, Q>, NoMemory>
 where
     B::Seen: LawfulWitness + Send + Sync,
+    Q::Alarm: Send + Sync,
     requires setup { length setup.unused_pollers.items ≡ broker.workers }
     ensures headline { IfOk result (λ outcome. (came : List T) × Gave S.arrived source came outcome.taken.source × (outcome.taken.came ≡ length came)
         × KeepsTheHeadline B.group B.Seen.Witness T.counts T.given T.accepted broker.entry.workers setup.max_inflight came broker.entry.caller outcome.caller outcome.shares.items outcome.ended.answers.items outcome.ended.strangers.items outcome.served.items (map Q.poller_calls outcome.pollers.items)) }
@@ -181,7 +180,6 @@ pub fn serve_until_closed<
     T: Transport + Drop + Send,
     S: Source<T> + Drop + Send,
     Q: Poller<T> + Drop + Send,
-    W: Wake + Drop + Send + Sync,
     I: Send,
     D: Watch<I> + Send,
     R: Threads + Wait + SystemClock + Sync,
@@ -190,7 +188,7 @@ pub fn serve_until_closed<
     alloc: Global,
     broker: OpenBroker<'g, B, N>,
     shares: &[Share],
-    setup: PoolSetup<T, Q, W>,
+    setup: PoolSetup<T, Q>,
     source: S,
     closers: Closers<'_, B>,
     watch: &mut D,
@@ -198,6 +196,7 @@ pub fn serve_until_closed<
 ) -> Result<Closed<'g, B, N, S, Q>, NoMemory>
 where
     B::Seen: Send + Sync,
+    Q::Alarm: Send + Sync,
     requires setup { length setup.unused_pollers.items ≡ broker.workers }
     ensures ports { IfOk result (λ closed. length closed.ports.items ≡ broker.entry.workers) }
     ensures run { IfOk result (λ closed. (came : List T) × Gave S.arrived source came closed.taken.source × (closed.taken.came ≡ length came)
@@ -272,7 +271,6 @@ fn run_bound<
     T: Transport + Drop + Send,
     S: Source<T> + Drop + Send,
     Q: Poller<T> + Drop + Send,
-    W: Wake + Drop + Send + Sync,
     I: Send,
     D: Watch<I> + Send,
     R: Threads + Wait + SystemClock + Sync,
@@ -282,7 +280,7 @@ fn run_bound<
     shared_broker: &SharedBroker<'_, B, N>,
     shares: &[Share],
     handles: Vec<WorkerHandle<B, N>>,
-    setup: PoolSetup<T, Q, W>,
+    setup: PoolSetup<T, Q>,
     source: S,
     accepting: Closer<'_, B>,
     watch: &mut D,
@@ -290,6 +288,7 @@ fn run_bound<
 ) -> Result<Ran<B, N, S, Q>, Vec<WorkerHandle<B, N>>>
 where
     B::Seen: Send + Sync,
+    Q::Alarm: Send + Sync,
     requires workers { (1 ≤ length handles.items) × (length handles.items ≤ 64) }
     requires setup { length setup.unused_pollers.items ≡ length handles.items }
     requires unused { All (λ handle. IsUnused handle.ports handle.desk) handles.items }

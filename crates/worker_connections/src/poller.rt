@@ -3,6 +3,7 @@ ghost use Rattle.std.specs.Prelude.{◌≡◌, List, Option};
 ghost use Rattle.worker_connections.specs.Arrivals.{IsWatched};
 ghost use Rattle.worker_connections.specs.PollerCalls.{PollerCall, Close, Wait as WaitCall, with_call};
 
+use bell::Wake;
 use std::sync::Wait;
 use transport::{Crossing, Transport};
 
@@ -17,6 +18,9 @@ pub struct Woken {
 
 /// Where a worker waits for its connections, and for a call of the others, and learns the moment; and what its connections cross before they write.
 pub trait Poller<T: Transport>: Crossing {
+    /// What wakes the worker.
+    type Alarm: Wake + Drop;
+
     /// The calls of it by which transports were closed, each as it was then, and by which its worker waited, in order; where they are known.
     ghost poller_calls: { Self → Option (List (PollerCall T)) };
 

@@ -12,7 +12,6 @@ use crate::provision::{Provision, provide};
 use crate::running::run_all;
 use crate::setup::PoolSetup;
 use crate::watching::Watch;
-use bell::Wake;
 use broker_groups::Broker;
 use broker_worker::{Mailboxes, Worker, WorkerParts};
 use call_history::HistoryName;
@@ -61,7 +60,6 @@ pub fn run<
     T: Transport + Drop + Send,
     S: Source<T> + Drop + Send,
     Q: Poller<T> + Drop + Send,
-    W: Wake + Drop + Send + Sync,
     I: Send,
     D: Watch<I> + Send,
     R: Threads + Wait + SystemClock + Sync,
@@ -70,7 +68,7 @@ pub fn run<
     alloc: Global,
     shared_broker: &SharedBroker<'_, B, N>,
     handles: Vec<WorkerHandle<B, N>>,
-    setup: PoolSetup<T, Q, W>,
+    setup: PoolSetup<T, Q>,
     source: S,
     closer: Closer<'_, B>,
     watch: &mut D,
@@ -79,6 +77,7 @@ pub fn run<
 ) -> Result<Pooled<B, N, S, Q>, Unbegun<B, N, S>>
 where
     B::Seen: Send + Sync,
+    Q::Alarm: Send + Sync,
     requires workers { (1 ≤ length handles.items) × (length handles.items ≤ 64) }
     requires setup { length setup.unused_pollers.items ≡ length handles.items }
     requires unused { All (λ handle. IsUnused handle.ports handle.desk) handles.items }
@@ -139,30 +138,15 @@ where
 }
 
 /// Hires a worker for each handle, with its parts, who receives from the channel of this sender, in the order of their numbers. Where an allocation fails for one of them, all handles come back.
-fn hire<
-    'a,
-    'g,
-    B: Broker,
-    N: HistoryName,
-    T: Transport + Drop,
-    Q: Poller<T> + Drop,
-    W: Wake + Drop,
-    R: Wait,
->(
+fn hire<'a, 'g, B: Broker, N: HistoryName, T: Transport + Drop, Q: Poller<T> + Drop, R: Wait>(
     rt: &'a R,
     alloc: Global,
     shared_broker: &'a SharedBroker<'g, B, N>,
     handles: Vec<WorkerHandle<B, N>>,
-    all_worker_parts: Vec<WorkerParts<T, Q, W>>,
-    mailboxes: &'a Mailboxes<W>,
+    all_worker_parts: Vec<WorkerParts<T, Q>>,
+    mailboxes: &'a Mailboxes<Q::Alarm>,
     sender: &Sender<Arrived<T>>,
-) -> Result<
-    (
-        Vec<Worker<'a, 'g, B, N, T, Q, W, R>>,
-        Vec<WorkerHandle<B, N>>,
-    ),
-    Vec<WorkerHandle<B, N>>,
->
+) -> Result<(Vec<Worker<'a, 'g, B, N, T, Q, R>>, Vec<WorkerHandle<B, N>>), Vec<WorkerHandle<B, N>>>
     requires count { length handles.items ≤ 64 }
     requires all_worker_parts { length all_worker_parts.items ≡ length handles.items }
     requires unused { All (λ handle. IsUnused handle.ports handle.desk) handles.items }
@@ -194,16 +178,10 @@ fn hire<
 }
 
 /// Lets workers go. What they had of the broker is put to the handles.
-fn release<
-    'a,
-    'g,
-    B: Broker,
-    N: HistoryName,
-    T: Transport + Drop,
-    Q: Poller<T> + Drop,
-    W: Wake + Drop,
-    R: Wait,
->(workers: Vec<Worker<'a, 'g, B, N, T, Q, W, R>>, handles: &mut Vec<WorkerHandle<B, N>>)
+fn release<'a, 'g, B: Broker, N: HistoryName, T: Transport + Drop, Q: Poller<T> + Drop, R: Wait>(
+    workers: Vec<Worker<'a, 'g, B, N, T, Q, R>>,
+    handles: &mut Vec<WorkerHandle<B, N>>,
+)
     requires { length handles.old.items + length workers.items ≤ vec_capacity handles.old }
     ensures { length handles.new.items ≡ length handles.old.items + length workers.entry.items }
 {
@@ -231,12 +209,11 @@ fn retire<
     T: Transport + Drop,
     S: Source<T> + Drop,
     Q: Poller<T> + Drop,
-    W: Wake + Drop,
     R: Wait,
 >(
     shared_broker: &SharedBroker<'g, B, N>,
-    acceptor: Acceptor<'a, B, T, S, W>,
-    workers: Vec<Worker<'a, 'g, B, N, T, Q, W, R>>,
+    acceptor: Acceptor<'a, B, T, S, Q::Alarm>,
+    workers: Vec<Worker<'a, 'g, B, N, T, Q, R>>,
     handles: Vec<WorkerHandle<B, N>>,
     receivers: Vec<Receiver<Arrived<T>>>,
     served: Vec<ServedCounts>,
@@ -284,18 +261,9 @@ fn retire<
 }
 
 /// Gathers what workers give back that have ended, who received from the channel of this sender, the last one's first.
-fn gather<
-    'a,
-    'g,
-    B: Broker,
-    N: HistoryName,
-    T: Transport + Drop,
-    Q: Poller<T> + Drop,
-    W: Wake + Drop,
-    R: Wait,
->(
+fn gather<'a, 'g, B: Broker, N: HistoryName, T: Transport + Drop, Q: Poller<T> + Drop, R: Wait>(
     shared_broker: &SharedBroker<'g, B, N>,
-    workers: Vec<Worker<'a, 'g, B, N, T, Q, W, R>>,
+    workers: Vec<Worker<'a, 'g, B, N, T, Q, R>>,
     sender: &Sender<Arrived<T>>,
     handles: &mut Vec<WorkerHandle<B, N>>,
     receivers: &mut Vec<Receiver<Arrived<T>>>,

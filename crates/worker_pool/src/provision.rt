@@ -2,7 +2,6 @@
 ghost use Rattle.std.specs.Prelude.{◌≡◌, ◌≤◌, ℕ, [], length, vec_capacity, IfOk};
 ghost use Rattle.broker_worker.specs.Parts.{ArePartsOf};
 
-use bell::Wake;
 use broker_worker::{Mailboxes, UnusedPoller, WorkerParts, all_worker_parts};
 use conn_channel::{Receiver, Sender};
 use conn_supply::NoMemory;
@@ -12,21 +11,21 @@ use worker_connections::{Arrived, Poller, ServedCounts};
 
 /// What all workers share, what each has of it, and the room for what they give back.
 #[derive(Drop)]
-pub(crate) struct Provision<T: Transport + Drop, Q: Poller<T>, W> {
-    pub(crate) mailboxes: Mailboxes<W>,
+pub(crate) struct Provision<T: Transport + Drop, Q: Poller<T>> {
+    pub(crate) mailboxes: Mailboxes<Q::Alarm>,
     pub(crate) sender: Sender<Arrived<T>>,
-    pub(crate) all_worker_parts: Vec<WorkerParts<T, Q, W>>,
+    pub(crate) all_worker_parts: Vec<WorkerParts<T, Q>>,
     pub(crate) receivers: Vec<Receiver<Arrived<T>>>,
     pub(crate) served: Vec<ServedCounts>,
     pub(crate) pollers: Vec<Q>,
 }
 
 /// Makes it for as many workers as there are pollers.
-pub(crate) fn provide<T: Transport + Drop, Q: Poller<T> + Drop, W: Wake + Drop>(
+pub(crate) fn provide<T: Transport + Drop, Q: Poller<T> + Drop>(
     alloc: Global,
     unused_pollers: Vec<UnusedPoller<T, Q>>,
-    alarms: Vec<W>,
-) -> Result<Provision<T, Q, W>, NoMemory>
+    alarms: Vec<Q::Alarm>,
+) -> Result<Provision<T, Q>, NoMemory>
     requires { length unused_pollers.items ≤ 64 }
     ensures sender { IfOk result (λ made. (made.sender.receivers ≡ length unused_pollers.items) × (made.sender.sent ≡ []) × (made.sender.end_marks_sent ≡ 0)) }
     ensures count { IfOk result (λ made. length made.all_worker_parts.items ≡ length unused_pollers.items) }

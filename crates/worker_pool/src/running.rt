@@ -37,16 +37,8 @@ impl<'a, B: Broker, T: Transport + Drop, S: Source<T>, W: Wake, R: Wait + System
     }
 }
 
-impl<
-    'a,
-    'g,
-    B: Broker,
-    N: HistoryName,
-    T: Transport + Drop,
-    Q: Poller<T> + Drop,
-    W: Wake + Drop,
-    R: Wait,
-> Labour<R> for Worker<'a, 'g, B, N, T, Q, W, R> {
+impl<'a, 'g, B: Broker, N: HistoryName, T: Transport + Drop, Q: Poller<T> + Drop, R: Wait> Labour<R>
+    for Worker<'a, 'g, B, N, T, Q, R> {
     ghost use Rattle.worker_pool.specs.Workers.{HasRun};
 
     ghost has_run = { λ old new. HasRun old new };
@@ -69,19 +61,19 @@ pub(crate) fn run_all<
     T: Transport + Drop + Send,
     S: Source<T> + Send,
     Q: Poller<T> + Drop + Send,
-    W: Wake + Drop + Send + Sync,
     I: Send,
     D: Watch<I> + Send,
     R: Threads + Wait + SystemClock + Sync,
 >(
     rt: &R,
-    acceptor: &mut Acceptor<'a, B, T, S, W>,
+    acceptor: &mut Acceptor<'a, B, T, S, Q::Alarm>,
     watch: &mut D,
     input: &mut I,
-    workers: &mut Vec<Worker<'a, 'g, B, N, T, Q, W, R>>,
+    workers: &mut Vec<Worker<'a, 'g, B, N, T, Q, R>>,
 )
 where
     B::Seen: Send + Sync,
+    Q::Alarm: Send + Sync,
     ensures accepted { HasAccepted S.tally S.arrived acceptor.old acceptor.new }
     ensures ends { TellsEnd S.tally acceptor.old acceptor.new }
     ensures watched { D.has_watched watch.old watch.new input.old input.new }

@@ -8,11 +8,11 @@ use worker_connections::Poller;
 /// How a pool serves: what each of its workers has of the system, and what holds of each connection. The pollers and the alarms are in the order of workers: a
 /// worker waits at its poller, which its alarm wakes.
 #[derive(Drop)]
-pub struct PoolSetup<T: Transport, Q: Poller<T>, W> {
+pub struct PoolSetup<T: Transport, Q: Poller<T>> {
     /// Where each worker waits, and what its connections cross.
     pub unused_pollers: Vec<UnusedPoller<T, Q>>,
     /// What wakes each worker.
-    pub alarms: Vec<W>,
+    pub alarms: Vec<Q::Alarm>,
     /// How many messages the client of a connection may have unacknowledged at most, whatever its Receive Maximum.
     pub max_inflight: MaxInflight,
 }

@@ -64,6 +64,8 @@ impl<'a, R: Clock> Crossing for AlwaysReady<'a, R> {
 }
 
 impl<'a, R: Clock> Poller<Scripted> for AlwaysReady<'a, R> {
+    type Alarm = Silent;
+
     ghost poller_calls = { λ _. None };
 
     fn register(&mut self, transport: &mut Scripted) -> Option<usize> {
