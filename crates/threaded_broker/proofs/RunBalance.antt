@@ -207,7 +207,7 @@ module _ (measure : PlaceState → ℕ) where
           let has = opened_has (old.first + cell) (opening_at now arrived) does.0 made.before made.after made.becomes in
           let set = set_cell old.cells new.cells cell made.before made.after made.has made.is in
           aside calls old new none (ap (λ (s : RunState T). s.supply.desk) does.3) (omega (arith, set, has.0, has.1)) within
-      done (Closed arrived) calls old new does none within = aside calls old new none (ap (λ (s : RunState T). s.supply.desk) does.2) (ap (λ (s : RunState T). has_all s.cells) does.2) within
+      done (Closed arrived number) calls old new does none within = aside calls old new none (ap (λ (s : RunState T). s.supply.desk) does.2) (ap (λ (s : RunState T). has_all s.cells) does.2) within
       done (Allowed most) calls old new does none within = aside calls old new none (ap (λ (s : RunState T). s.supply.desk) does) (ap (λ (s : RunState T). has_all s.cells) does) within
       done (MadeRound cell now acts how) calls old new does asked within =
           let round = asked.becomes in

@@ -61,19 +61,19 @@ module _ {T : Type 0} (group : ℕ → GroupId) (seen : Sights) (counts : T → 
       runs_on group seen counts given accepted (Opened arrived opened.0 latest) _ _ ran
       (opened.1.0, opened.1.1, opened.1.2, λ i. record { first = first; supply = supply; cells = cells'; received = more i; served = opened.2 i; poller_calls = opened.1.4 i; latest = latest }, refl)
   comes arrived supply cells cells' received received' served served' poller_calls poller_calls' more ran (inr refused) =
-      runs_on group seen counts given accepted (Closed arrived) _ _ ran
-      (refused.0.1.0, refused.0.1.1, λ i. record { first = first; supply = supply; cells = refused.0.0 i; received = more i; served = refused.1 i; poller_calls = refused.0.1.2 i; latest = latest })
+      runs_on group seen counts given accepted (Closed arrived refused.0.1.1) _ _ ran
+      (refused.0.1.0, refused.0.1.2, λ i. record { first = first; supply = supply; cells = refused.0.0 i; received = more i; served = refused.1 i; poller_calls = refused.0.1.3 i; latest = latest })
 
   -- the connection in a cell went on by a round
   goes : (supply supply' : Worker) (cells cells' : List (Option (ServiceState PlaceState T))) (received : List (ArrivedState T)) (served served' : ServedCounts) (poller_calls poller_calls' : Option (List (PollerCall T))) (cell : ℕ)
       (before after : Option (ServiceState PlaceState T)) (cell_outcome : CellOutcome T) → slice_get cells cell ≡ Some before → cells' ≡ slice_set cells cell after
       → Turns (Calls group seen) Begins Leaves is_visiting (λ (p : PlaceState). p.group) counts given accepted latest before supply cell_outcome after supply'
-      → served' ≡ counted_behind cell_outcome served → poller_calls' ≡ closed_after cell_outcome poller_calls
+      → served' ≡ counted_behind cell_outcome served → poller_calls' ≡ closed_after cell cell_outcome poller_calls
       → (deed : Deed T) × Makes group seen counts given accepted deed (record { first = first; supply = supply; cells = cells; received = received; served = served; poller_calls = poller_calls; latest = latest })
       (record { first = first; supply = supply'; cells = cells'; received = received; served = served'; poller_calls = poller_calls'; latest = latest })
   goes supply supply' cells cells' received served served' poller_calls poller_calls' cell None after cell_outcome has is made counted_is closed_is =
       let same : served' ≡ served = subst (λ (t : CellOutcome T). served' ≡ counted_behind t served) made.0 counted_is in
-      let unclosed : poller_calls' ≡ poller_calls = subst (λ (t : CellOutcome T). poller_calls' ≡ closed_after t poller_calls) made.0 closed_is in (
+      let unclosed : poller_calls' ≡ poller_calls = subst (λ (t : CellOutcome T). poller_calls' ≡ closed_after cell t poller_calls) made.0 closed_is in (
         Passed cell,
         (
           record { before = None; after = after; has = has; becomes = (refl, made.1); is = is },
@@ -109,7 +109,7 @@ module _ {T : Type 0} (group : ℕ → GroupId) (seen : Sights) (counts : T → 
           round = made.1;
           acts_are = refl;
           leaves = (made.2.0.0, made.2.0.1, made.2.2);
-          closes = subst (λ (t : T). poller_calls' ≡ with_call (Close t) poller_calls) made.2.1 closed_is;
+          closes = subst (λ (t : T). poller_calls' ≡ with_call (Close (Some cell) t) poller_calls) made.2.1 closed_is;
         };
         is = is;
       },
@@ -123,7 +123,7 @@ module _ {T : Type 0} (group : ℕ → GroupId) (seen : Sights) (counts : T → 
       (cell_outcome : CellOutcome T) → HasRunTo group seen counts given accepted (record { first = first; supply = supply; cells = cells; received = received; served = served; poller_calls = poller_calls; latest = latest })
       → allowed ≡ record supply { allowance = most }
       → InCell cells cell (λ before after. Turns (Calls group seen) Begins Leaves is_visiting (λ (p : PlaceState). p.group) counts given accepted latest before allowed cell_outcome after supply') cells'
-      → served' ≡ counted_behind cell_outcome served → poller_calls' ≡ closed_after cell_outcome poller_calls
+      → served' ≡ counted_behind cell_outcome served → poller_calls' ≡ closed_after cell cell_outcome poller_calls
       → HasRunTo group seen counts given accepted (record { first = first; supply = supply'; cells = cells'; received = received; served = served'; poller_calls = poller_calls'; latest = latest })
   outcome supply allowed supply' most cells cells' received served served' poller_calls poller_calls' cell cell_outcome ran allows made counted_is closed_is =
       let deed = goes allowed supply' cells cells' received served served' poller_calls poller_calls' cell made.before made.after cell_outcome made.has made.is made.becomes counted_is closed_is in
@@ -177,7 +177,7 @@ module _ {T : Type 0} (group : ℕ → GroupId) (seen : Sights) (counts : T → 
   -- each connection that came stands in the list of deeds, once, and nothing else does
   came_one : (deed : Deed T) (old new : RunState T) → Makes group seen counts given accepted deed old new → new.received ≡ old.received ++ came_in deed
   came_one (Opened arrived cell now) old new does = ap (λ (s : RunState T). s.received) does.3
-  came_one (Closed arrived) old new does = ap (λ (s : RunState T). s.received) does.2
+  came_one (Closed arrived number) old new does = ap (λ (s : RunState T). s.received) does.2
   came_one (Allowed most) old new does = ap (λ (s : RunState T). s.received) does ∙ sym (append-nil old.received)
   came_one (MadeRound cell now acts how) old new does = ap (λ (s : RunState T). s.received) does.1 ∙ sym (append-nil old.received)
   came_one (Passed cell) old new does = ap (λ (s : RunState T). s.received) does.1 ∙ sym (append-nil old.received)

@@ -135,7 +135,7 @@ module _ (group : ℕ → GroupId) (seen : Sights) where
         let made = does.2 in
         subst AreGoing (sym made.is)
         (All-set IfGoing old.cells cell made.after (opened_going (old.first + cell) (opening_at now arrived) does.0 made.before made.after made.becomes) all)
-    made_going (Closed arrived) old new does all = subst (λ (s : RunState T). AreGoing s.cells) (sym does.2) all
+    made_going (Closed arrived number) old new does all = subst (λ (s : RunState T). AreGoing s.cells) (sym does.2) all
     made_going (Allowed most) old new does all = subst (λ (s : RunState T). AreGoing s.cells) (sym does) all
     made_going (MadeRound cell now acts how) old new does all =
         let made = does.0 in

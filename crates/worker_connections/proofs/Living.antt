@@ -108,7 +108,7 @@ module _ {T : Type 0} (group : ℕ → GroupId) (seen : Sights) (counts : T → 
       (All-set Lived old.cells cell made.after
       (opens (Calls group seen) Begins Leaves is_visiting (λ (p : PlaceState). p.group) counts given accepted (old.first + cell) (opening_at now arrived) does.0 made.before made.after old.supply
       (does.1.counts_are ∙ fresh.0) made.becomes) all)
-  lives (Closed arrived) old new fresh does all = subst (λ (s : RunState T). AllLived s.cells) (sym does.2) all
+  lives (Closed arrived number) old new fresh does all = subst (λ (s : RunState T). AllLived s.cells) (sym does.2) all
   lives (Allowed most) old new fresh does all = subst (λ (s : RunState T). AllLived s.cells) (sym does) all
   lives (MadeRound cell now acts how) old new fresh does all =
       let made = does.0 in

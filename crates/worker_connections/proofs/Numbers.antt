@@ -111,7 +111,7 @@ module _ {T : Type 0} (group : ℕ → GroupId) (seen : Sights) (counts : T → 
   -- a deed leaves the numbers of the cells as they are, and each connection has that of its cell
   same_first : (deed : Deed T) (old new : RunState T) → Makes group seen counts given accepted deed old new → new.first ≡ old.first
   same_first (Opened arrived cell now) old new does = ap (λ (s : RunState T). s.first) does.3
-  same_first (Closed arrived) old new does = ap (λ (s : RunState T). s.first) does.2
+  same_first (Closed arrived number) old new does = ap (λ (s : RunState T). s.first) does.2
   same_first (Allowed most) old new does = ap (λ (s : RunState T). s.first) does
   same_first (MadeRound cell now acts how) old new does = ap (λ (s : RunState T). s.first) does.1
   same_first (Passed cell) old new does = ap (λ (s : RunState T). s.first) does.1
@@ -129,7 +129,7 @@ module _ {T : Type 0} (group : ℕ → GroupId) (seen : Sights) (counts : T → 
       let made = does.2 in
       set_number old.first cell old.cells new.cells made.before made.after made.has made.is
       (opened_number (old.first + cell) (opening_at now arrived) does.0 made.before made.after made.becomes) all
-  numbered (Closed arrived) old new does all = subst (λ (s : RunState T). AreNumberedFrom old.first s.cells) (sym does.2) all
+  numbered (Closed arrived number) old new does all = subst (λ (s : RunState T). AreNumberedFrom old.first s.cells) (sym does.2) all
   numbered (Allowed most) old new does all = subst (λ (s : RunState T). AreNumberedFrom old.first s.cells) (sym does) all
   numbered (MadeRound cell now acts how) old new does all =
       let made = does.0 in

@@ -445,7 +445,7 @@ module _ (group : ℕ → GroupId) (seen : Sights) where
 
     done : (deed : Deed T) (old new : RunState T) → Makes group seen counts given accepted deed old new → EachActOf group seen counts given accepted (PublishesIn group seen) deed old new
     done (Opened arrived cell now) old new does = tt
-    done (Closed arrived) old new does = tt
+    done (Closed arrived number) old new does = tt
     done (Allowed most) old new does = tt
     done (MadeRound cell now acts how) old new does =
         let made = does.0 in

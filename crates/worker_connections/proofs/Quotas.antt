@@ -67,7 +67,7 @@ module _ {T : Type 0} (group : ℕ → GroupId) (seen : Sights) (counts : T → 
       let made = does.2 in
       subst (λ (cells : List (Option (ServiceState PlaceState T))). All (IfWithin limit) cells) (sym made.is)
       (All-set (IfWithin limit) old.cells cell made.after (opened_within limit (old.first + cell) (opening_at now arrived) does.0 made.before made.after few.0 made.becomes) all)
-  keeps limit (Closed arrived) old new few does all = subst (λ (s : RunState T). All (IfWithin limit) s.cells) (sym does.2) all
+  keeps limit (Closed arrived number) old new few does all = subst (λ (s : RunState T). All (IfWithin limit) s.cells) (sym does.2) all
   keeps limit (Allowed most) old new few does all = subst (λ (s : RunState T). All (IfWithin limit) s.cells) (sym does) all
   keeps limit (MadeRound cell now acts how) old new few does all =
       let made = does.0 in

@@ -75,7 +75,7 @@ module _ {T : Type 0} (group : ℕ → GroupId) (seen : Sights) (counts : T → 
 
   done : (deed : Deed T) (old new : RunState T) → Makes group seen counts given accepted deed old new → (calls : List (SupplyCall PlaceState)) × AreOfDeed group seen counts given accepted deed old calls new
   done (Opened arrived cell now) old new does = ([], refl)
-  done (Closed arrived) old new does = ([], refl)
+  done (Closed arrived number) old new does = ([], refl)
   done (Allowed most) old new does = ([], refl)
   done (MadeRound cell now acts how) old new does =
       let made = does.0 in

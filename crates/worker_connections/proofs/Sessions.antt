@@ -30,7 +30,7 @@ module _ {T : Type 0} (group : ℕ → GroupId) (seen : Sights) (counts : T → 
   told : (deed : Deed T) (old new : RunState T) → AreGoing group seen counts given accepted old.cells → Makes group seen counts given accepted deed old new
       → EachActOf group seen counts given accepted (TellsSession group seen) deed old new
   told (Opened arrived cell now) old new all does = tt
-  told (Closed arrived) old new all does = tt
+  told (Closed arrived number) old new all does = tt
   told (Allowed most) old new all does = tt
   told (MadeRound cell now acts how) old new all does =
       let made = does.0 in

@@ -19,7 +19,7 @@ use Rattle.shared_supply.specs.Waking.{KeepsAtMost, no_wakes, one_called}
 use Rattle.shared_supply.specs.Workers.{Worker, Begins, Leaves, is_visiting}
 use Rattle.worker_connections.specs.declared.served.ServedCounts.{ServedCounts}
 use Rattle.worker_connections.specs.Arrivals.{ArrivedState, IsWatched, opening_at}
-use Rattle.worker_connections.specs.PollerCalls.{PollerCall, Close, Wait, HasNoCalls, with_call, closed_if}
+use Rattle.worker_connections.specs.PollerCalls.{PollerCall, Register, Close, Wait, HasNoCalls, with_call, closed_if}
 use Rattle.worker_connections.specs.Counting.{counted, counted_if, none_served}
 use Rattle.worker_connections.specs.Sweeping.{AreTicked, sweep_period}
 
@@ -27,8 +27,8 @@ use Rattle.worker_connections.specs.Sweeping.{AreTicked, sweep_period}
 pub data Deed (T : Type 0) : Type 0 where
   -- this connection came, and was opened in this cell at this moment
   Opened : (arrived : ArrivedState T) → (cell now : ℕ) → Deed T
-  -- this connection came, and was closed at once, as it came: an allocation failed, or the system did not watch it
-  Closed : (arrived : ArrivedState T) → Deed T
+  -- this connection came, and was closed at once, as it came: an allocation failed, or the system did not watch it, and else it was watched under this number
+  Closed : (arrived : ArrivedState T) → (number : Option ℕ) → Deed T
   -- so many messages at most are to be handed out from now on
   Allowed : (most : ℕ) → Deed T
   -- the connection in this cell went on by a round at this moment, of these acts; and ended so and was closed, if it did
@@ -92,7 +92,7 @@ module _ {T : Type 0} (group : ℕ → GroupId) (seen : Sights) (counts : T → 
       Rounds (Calls group seen) Begins Leaves is_visiting (λ (p : PlaceState). p.group) counts given accepted now service supply behind supply'
 
   -- the connection in a cell goes on by a round of these acts; where that ends it, its transport is closed as the round left it
-  pub record GoesOn (now : ℕ) (acts : List Act) (how : Option Served) (before : Option (ServiceState PlaceState T)) (supply : Worker) (poller_calls : Option (List (PollerCall T)))
+  pub record GoesOn (cell now : ℕ) (acts : List Act) (how : Option Served) (before : Option (ServiceState PlaceState T)) (supply : Worker) (poller_calls : Option (List (PollerCall T)))
       (after : Option (ServiceState PlaceState T)) (supply' : Worker) (poller_calls' : Option (List (PollerCall T))) : Type 0 where
     pub service : ServiceState PlaceState T
     pub here : before ≡ Some service
@@ -100,20 +100,20 @@ module _ {T : Type 0} (group : ℕ → GroupId) (seen : Sights) (counts : T → 
     pub round : RoundsOf now service supply behind supply'
     pub acts_are : acts ≡ round.led.acts
     pub leaves : LeavesCell how behind after
-    pub closes : poller_calls' ≡ closed_if how behind.transport poller_calls
+    pub closes : poller_calls' ≡ closed_if cell how behind.transport poller_calls
 
   -- what a deed makes of the worker. What it does at a moment it does at its own one, and that changes only where it waited. **It waits only where it owes
   -- nothing**, and no longer than 50 milliseconds
   abbrev pub Makes : Deed T → RunState T → RunState T → Type 0
   Makes (Opened arrived cell now) old new =
       (watched : T) × IsWatched counts given accepted arrived.transport watched × InCell old.cells cell (Opens (old.first + cell) (opening_at now arrived) watched) new.cells
-      × (new ≡ record old { cells = new.cells; received = old.received ++ arrived ∷ [] }) × (now ≡ old.latest)
-  Makes (Closed arrived) old new =
+      × (new ≡ record old { cells = new.cells; received = old.received ++ arrived ∷ []; poller_calls = with_call (Register (Some cell) watched) old.poller_calls }) × (now ≡ old.latest)
+  Makes (Closed arrived number) old new =
       (watched : T) × IsWatched counts given accepted arrived.transport watched
-      × (new ≡ record old { received = old.received ++ arrived ∷ []; served = counted Memory old.served; poller_calls = with_call (Close watched) old.poller_calls })
+      × (new ≡ record old { received = old.received ++ arrived ∷ []; served = counted Memory old.served; poller_calls = with_call (Close number watched) (with_call (Register number watched) old.poller_calls) })
   Makes (Allowed most) old new = new ≡ record old { supply = record old.supply { allowance = most } }
   Makes (MadeRound cell now acts how) old new =
-      InCell old.cells cell (λ before after. GoesOn now acts how before old.supply old.poller_calls after new.supply new.poller_calls) new.cells
+      InCell old.cells cell (λ before after. GoesOn cell now acts how before old.supply old.poller_calls after new.supply new.poller_calls) new.cells
       × (new ≡ record old { supply = new.supply; cells = new.cells; served = counted_if how old.served; poller_calls = new.poller_calls }) × (now ≡ old.latest)
   Makes (Passed cell) old new =
       InCell old.cells cell (λ before after. (before ≡ None) × (after ≡ None)) new.cells × (new ≡ record old { cells = new.cells })
@@ -156,7 +156,7 @@ module _ {T : Type 0} (group : ℕ → GroupId) (seen : Sights) (counts : T → 
 -- the connections that came by a deed, and by these
 abbrev pub came_in : {T : Type 0} → Deed T → List (ArrivedState T)
 came_in (Opened arrived cell now) = arrived ∷ []
-came_in (Closed arrived) = arrived ∷ []
+came_in (Closed arrived number) = arrived ∷ []
 came_in _ = []
 
 abbrev pub came_by : {T : Type 0} → List (Deed T) → List (ArrivedState T)

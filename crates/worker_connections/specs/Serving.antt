@@ -24,7 +24,7 @@ use Rattle.worker_connections.specs.declared.served.ServedCounts.{ServedCounts}
 use Rattle.worker_connections.specs.declared.sweeps.Sweeps.{Sweeps}
 use Rattle.worker_connections.specs.Arrivals.{ArrivedState, IsWatched, opening_at}
 use Rattle.worker_connections.specs.Chains.{RunState}
-use Rattle.worker_connections.specs.PollerCalls.{PollerCall, Close, with_call}
+use Rattle.worker_connections.specs.PollerCalls.{PollerCall, Register, Close, with_call}
 use Rattle.worker_connections.specs.Counting.{counted, counts_of, none_served}
 use Rattle.worker_connections.specs.Sweeping.{KeepsMoment}
 
@@ -110,9 +110,10 @@ pub record IsDone {T : Type 0} (connections : ConnectionsState T) : Type 0 where
 abbrev pub Admits : {T : Type 0} → (T → Counts) → (T → Option (List ℕ)) → (T → Option (List ℕ)) → (first now : ℕ) → ArrivedState T → List (Option (ServiceState PlaceState T)) → Option (List (PollerCall T))
     → Option ℕ → List (Option (ServiceState PlaceState T)) → Option (List (PollerCall T)) → Type 0
 Admits {T} counts given accepted first now arrived old poller_calls None new poller_calls' =
-    (new ≡ old) × ((watched : T) × IsWatched counts given accepted arrived.transport watched × (poller_calls' ≡ with_call (Close watched) poller_calls))
+    (new ≡ old) × ((watched : T) × (number : Option ℕ) × IsWatched counts given accepted arrived.transport watched
+    × (poller_calls' ≡ with_call (Close number watched) (with_call (Register number watched) poller_calls)))
 Admits {T} counts given accepted first now arrived old poller_calls (Some cell) new poller_calls' =
-    (watched : T) × IsWatched counts given accepted arrived.transport watched × InCell old cell (Opens (first + cell) (opening_at now arrived) watched) new × (occupied new ≡ occupied old + 1) × (poller_calls' ≡ poller_calls)
+    (watched : T) × IsWatched counts given accepted arrived.transport watched × InCell old cell (Opens (first + cell) (opening_at now arrived) watched) new × (occupied new ≡ occupied old + 1) × (poller_calls' ≡ with_call (Register (Some cell) watched) poller_calls)
 
 -- it is open then, or has ended and is counted as one for which an allocation failed
 abbrev pub TakesIn : {T : Type 0} → (T → Counts) → (T → Option (List ℕ)) → (T → Option (List ℕ)) → (first now : ℕ) → ArrivedState T → List (Option (ServiceState PlaceState T)) → ServedCounts

@@ -78,7 +78,7 @@ pub(crate) fn settle<T: Transport, Q: Poller<T>>(
     cell_outcome: CellOutcome<T>,
 ) -> Option<Round>
     ensures told { result ≡ round_of cell_outcome }
-    ensures poller_calls { Q.poller_calls poller.new ≡ closed_after cell_outcome (Q.poller_calls poller.old) }
+    ensures poller_calls { Q.poller_calls poller.new ≡ closed_after cell cell_outcome (Q.poller_calls poller.old) }
 {
     match cell_outcome {
         CellOutcome::Vacant => None,

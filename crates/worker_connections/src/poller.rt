@@ -1,7 +1,7 @@
 //! Where a worker waits.
 ghost use Rattle.std.specs.Prelude.{◌≡◌, List, Option};
 ghost use Rattle.worker_connections.specs.Arrivals.{IsWatched};
-ghost use Rattle.worker_connections.specs.PollerCalls.{PollerCall, Close, Wait as WaitCall, with_call};
+ghost use Rattle.worker_connections.specs.PollerCalls.{PollerCall, Register, Close, Wait as WaitCall, with_call};
 
 use bell::Wake;
 use std::sync::Wait;
@@ -21,17 +21,17 @@ pub trait Poller<T: Transport>: Crossing {
     /// What wakes the worker.
     type Alarm: Wake + Drop;
 
-    /// The calls of it by which transports were closed, each as it was then, and by which its worker waited, in order; where they are known.
+    /// Its calls but those of `take_ready`, in order, with what they told; where they are known.
     ghost poller_calls: { Self → Option (List (PollerCall T)) };
 
     /// Watches a transport from now on, under the least number that is free; `None` where there is none, or the system refuses.
     fn register(&mut self, transport: &mut T) -> Option<usize>
         ensures watched { IsWatched T.counts T.given T.accepted transport.old transport.new }
-        ensures poller_calls { poller_calls self.new ≡ poller_calls self.old };
+        ensures poller_calls { poller_calls self.new ≡ with_call (Register result transport.new) (poller_calls self.old) };
 
     /// Closes a transport. The number under which it was watched, if it was, is free.
     fn close(&mut self, number: Option<usize>, transport: T)
-        ensures { poller_calls self.new ≡ with_call (Close transport) (poller_calls self.old) };
+        ensures { poller_calls self.new ≡ with_call (Close number transport) (poller_calls self.old) };
 
     /// Waits until something may be read or written, or the worker is called, or for so many milliseconds.
     fn wait<R: Wait>(&mut self, rt: &R, at_most: u64) -> Woken
