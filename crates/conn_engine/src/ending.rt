@@ -148,6 +148,7 @@ pub fn retire<P: HoldingPlace, S: Supply<P>>(supply: &mut S, session: Session<En
         expiry,
         mut window,
         membership,
+        subscription,
     } = session;
     window.down();
     let membership = match membership {
@@ -168,6 +169,7 @@ pub fn retire<P: HoldingPlace, S: Supply<P>>(supply: &mut S, session: Session<En
             expiry,
             window,
             membership,
+            subscription,
         },
     )
 }

@@ -4,7 +4,7 @@ use Rattle.session_desk.specs.declared.session.Session.{Session}
 use Rattle.session_desk.specs.declared.session.Membership.{Membership}
 
 abbrev pub with_window : {E P : Type 0} → Session E P → Contents E → Session E P
-with_window session window = record { identity = session.identity; expiry = session.expiry; window = window; membership = session.membership }
+with_window session window = record { identity = session.identity; expiry = session.expiry; window = window; membership = session.membership; subscription = session.subscription }
 
 abbrev pub with_membership : {E P : Type 0} → Session E P → Membership P → Session E P
-with_membership session membership = record { identity = session.identity; expiry = session.expiry; window = session.window; membership = membership }
+with_membership session membership = record { identity = session.identity; expiry = session.expiry; window = session.window; membership = membership; subscription = session.subscription }

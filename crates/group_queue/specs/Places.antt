@@ -8,7 +8,7 @@ use Rattle.dispatch_core.specs.declared.event.Job.{Job}
 use Rattle.dispatch_core.specs.JobRuns.{count_of}
 use Rattle.group_jobs.specs.declared.fate.Fate.{Fate}
 use Rattle.group_jobs.specs.declared.error.JobError.{JobError}
-use Rattle.group_jobs.specs.Stamps.{Held, stamp_of, job_of}
+use Rattle.group_jobs.specs.Stamps.{Held, envelope_of, stamp_of, job_of}
 use Rattle.group_jobs.specs.Settled.{settled_as, KeepsSettled, IsUnsettled, Settles}
 use Rattle.group_jobs.specs.Dockets.{Kept, TakesOff}
 use Rattle.group_jobs.specs.Balance.{Account, Balance}
@@ -120,7 +120,7 @@ pub record SettlesHeld (old : PlaceState) (job : Job) (fate : Fate) (new : Place
 
 -- a message is out, in an envelope
 pub record IsHandedOut (old : PlaceState) (posted : Posted) (envelope : Held) (new : PlaceState) : Type 0 where
-  pub envelope_is : envelope ≡ record { stamp = stamp_of old.group posted.job; place = old.number; message = posted.message }
+  pub envelope_is : envelope ≡ envelope_of (stamp_of old.group posted.job) old.number posted.message
   pub out : new.docket.out ≡ old.docket.out ++ posted.job ∷ []
   pub settled : KeepsSettled old.docket.settled new.docket.settled
 

@@ -10,7 +10,7 @@ use Rattle.group_jobs.specs.declared.fate.Fate.{Fate}
 use Rattle.group_jobs.specs.declared.fate.Fate.TheVariants as fate
 use Rattle.group_jobs.specs.declared.message.Message.{Message}
 use Rattle.group_jobs.specs.declared.stamp.Stamp.{Stamp}
-use Rattle.group_jobs.specs.Stamps.{Held as Envelope, job_of, stamp_of}
+use Rattle.group_jobs.specs.Stamps.{Held as Envelope, envelope_of, job_of, stamp_of}
 use Rattle.local_group.specs.declared.waiting.Waiting.{Waiting}
 use Rattle.local_group.specs.declared.error.OfferError.{OfferError}
 use Rattle.local_group.specs.declared.error.OfferError.TheVariants as offer
@@ -38,7 +38,7 @@ waits job message = record { job = job; message = message }
 
 -- a message of the group of this slot in the hands of a place
 abbrev pub held_by : ℕ → Waiting → ℕ → Envelope
-held_by slot waiting place = record { stamp = stamp_of slot waiting.job; place = place; message = waiting.message }
+held_by slot waiting place = envelope_of (stamp_of slot waiting.job) place waiting.message
 
 -- the group has it out: it is of this group, and the place has not settled it or given it back
 pub record IsHeld (group : Group) (envelope : Envelope) : Type 0 where

@@ -28,9 +28,9 @@ pub record Books (E P : Type 0) : Type 0 where
 abbrev pub new_books : {E P : Type 0} → Books E P
 new_books = record { rows = map.empty; made = 0; assigned = 0; waits = replicate 1024 None; kicked = replicate 1024 false; free = replicate 256 None }
 
--- a new session: it ends with its connection, holds nothing, and is no member
+-- a new session: it ends with its connection, holds nothing, is no member, and has no Subscription Identifier
 abbrev pub new_session : {E P : Type 0} → Who → Session E P
-new_session who = record { identity = who; expiry = record { seconds = 0; parked = None }; window = new_contents; membership = NotMember }
+new_session who = record { identity = who; expiry = record { seconds = 0; parked = None }; window = new_contents; membership = NotMember; subscription = None }
 
 -- this connection waits for the session: the session's row names the connection, and the connection the session
 pub record IsWaiting {E P : Type 0} (b : Books E P) (number : ℕ) (row : Row E P) (connection : ℕ) : Type 0 where

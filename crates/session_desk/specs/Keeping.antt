@@ -18,7 +18,7 @@ IsAway b session = IsAwayIn b.rows session
 -- parked at this moment
 abbrev pub parked_at : {E P : Type 0} → Session E P → ℕ → Session E P
 parked_at session now =
-    record { identity = session.identity; expiry = record { seconds = session.expiry.seconds; parked = Some now }; window = session.window; membership = session.membership }
+    record { identity = session.identity; expiry = record { seconds = session.expiry.seconds; parked = Some now }; window = session.window; membership = session.membership; subscription = session.subscription }
 
 -- `park` keeps a lent session from this moment on; one that ends with its connection it ends, and hands back
 pub record EndsLent {E P : Type 0} (old : Books E P) (session : Session E P) (new : Books E P) : Type 0 where

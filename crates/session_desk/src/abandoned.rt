@@ -29,6 +29,7 @@ impl<E, P: Drop> Session<E, P> {
             expiry: _,
             window,
             membership: _,
+            subscription: _,
         } = self;
         identity.end();
         window.end();
@@ -46,6 +47,7 @@ impl<E, P: Drop> Session<E, P> {
             expiry: _,
             window,
             membership: _,
+            subscription: _,
         } = self;
         identity.end();
         abandon_window(window, discard);

@@ -253,6 +253,7 @@ impl<E, P: Place> Desk<E, P> {
             expiry: _,
             window,
             membership,
+            subscription: _,
         } = session;
         self.table.bury(identity.number());
         self.free.take_back(membership);

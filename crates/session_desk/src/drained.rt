@@ -60,6 +60,7 @@ fn drain_session<E, P>(session: Session<E, P>, places: &mut Vec<P>, envelopes: &
         expiry: _,
         window,
         membership,
+        subscription: _,
     } = session;
     identity.end();
     let _held = window.len(); // at most 256

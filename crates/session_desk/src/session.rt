@@ -3,6 +3,7 @@ ghost use Rattle.std.specs.Prelude.{◌≡◌, ◌↔◌, ◌≤◌, ℕ, IsTrue
 
 use bytes::Bytes;
 use member_window::Window;
+use mqtt_packet::SubscriptionIdentifier;
 use std::marker::Model;
 
 /// Who a session is: its number, which no other session of its desk ever has, and the identifier of its client
@@ -122,6 +123,9 @@ pub struct Session<E, P> {
     pub window: Window<E>,
     /// Its place in a group, if it has one.
     pub membership: Membership<P>,
+    /// The Subscription Identifier that the client gave with its last subscription, if it gave one (section 3.8.2.1.2). What is
+    /// handed out from then on goes out under it.
+    pub subscription: Option<SubscriptionIdentifier>,
 }
 
 impl<E, P> Session<E, P> {
@@ -138,6 +142,7 @@ impl<E, P> Session<E, P> {
             expiry: Expiry::NONE,
             window,
             membership: Membership::NotMember,
+            subscription: None,
         }
     }
 }

@@ -22,9 +22,9 @@ use worker_connections::Arrived;
 const FULL_PAUSE: u64 = 10;
 
 /// For how many milliseconds it is waited, again and again, for every worker to begin; and how often.
-const BEGIN_PAUSE: u64 = 1;
+const BEGIN_PAUSE: u64 = 10;
 
-const MOST_BEGIN_PAUSES: u32 = 10_000;
+const MOST_BEGIN_PAUSES: u32 = 1_000;
 
 /// How the source ended.
 #[derive(Clone, Copy, Debug, PartialEq, Eq)]
