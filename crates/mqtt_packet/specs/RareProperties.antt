@@ -5,7 +5,6 @@ use Rattle.mqtt_packet.specs.declared.packet_properties.PublishProperties.{Publi
 abbrev pub no_properties : PublishProperties
 no_properties = record {
   payload_format_indicator = None;
-  message_expiry_interval = None;
   content_type = None;
   response_topic = None;
   correlation_data = None;

@@ -12,6 +12,7 @@ use crate::packet_properties::{
 use crate::rare_properties::RareProperties;
 use crate::reason_code::ReasonCode;
 use crate::text::Text;
+use crate::values::SubscriptionIdentifier;
 use bytes::Bytes;
 
 /// Quality of service (section 4.3).
@@ -89,14 +90,21 @@ pub enum ConnectRefusal {
 }
 
 /// PUBLISH (section 3.3).
+///
+/// The small fields stand side by side, since a packet is moved a dozen times on its way and each move costs its size.
 #[derive(Debug, Drop, PartialEq)]
 pub struct Publish {
     /// It may have been sent before (section 3.3.1.1).
     pub dup: bool,
     /// It is to be retained, or was (section 3.3.1.3).
     pub retain: bool,
-    pub topic: Text,
     pub delivery: Delivery,
+    /// Seconds for which it may wait for its receivers (section 3.3.2.3.3).
+    pub message_expiry_interval: Option<u32>,
+    /// That of the subscription for which a server sends it (section 3.3.2.3.8). A PUBLISH that was read has none, since a client sends none.
+    pub subscription_identifier: Option<SubscriptionIdentifier>,
+    pub topic: Text,
+    /// Its other properties.
     pub properties: RareProperties,
     /// Shared, as the bytes of a [`Text`] are.
     pub payload: Bytes,

@@ -48,13 +48,12 @@ pub struct Authentication {
     pub authentication_data: Option<Binary>,
 }
 
-/// The properties of a PUBLISH (section 3.3.2.3).
+/// The properties of a PUBLISH (section 3.3.2.3), without those two that are fields of its own: the Message Expiry Interval and the Subscription
+/// Identifier.
 #[derive(Debug, Drop, PartialEq)]
 pub struct PublishProperties {
     /// Any byte (profile).
     pub payload_format_indicator: Option<u8>,
-    /// Seconds.
-    pub message_expiry_interval: Option<u32>,
     pub content_type: Option<Text>,
     /// Any text (profile).
     pub response_topic: Option<Text>,
@@ -66,11 +65,10 @@ pub struct PublishProperties {
 impl PublishProperties {
     /// None of them.
     pub fn new(alloc: Global) -> PublishProperties
-        ensures { result ≡ record { payload_format_indicator = None; message_expiry_interval = None; content_type = None; response_topic = None; correlation_data = None; topic_alias = None; user_properties = [] } }
+        ensures { result ≡ record { payload_format_indicator = None; content_type = None; response_topic = None; correlation_data = None; topic_alias = None; user_properties = [] } }
     {
         PublishProperties {
             payload_format_indicator: None,
-            message_expiry_interval: None,
             content_type: None,
             response_topic: None,
             correlation_data: None,
@@ -85,9 +83,7 @@ impl PublishProperties {
     pub fn is_none(&self) -> bool
         ensures { IsTrue result ↔ (self.now ≡ no_properties) }
     {
-        let has_number = self.payload_format_indicator.is_some()
-            || self.message_expiry_interval.is_some()
-            || self.topic_alias.is_some();
+        let has_number = self.payload_format_indicator.is_some() || self.topic_alias.is_some();
         let has_text = self.content_type.is_some()
             || self.response_topic.is_some()
             || self.correlation_data.is_some();

@@ -1,4 +1,4 @@
-//! The properties of a PUBLISH, which has most often none.
+//! The properties of a PUBLISH that stand apart from it, of which it has most often none.
 
 ghost use Rattle.std.specs.Prelude.{◌≡◌, ◌↔◌, IsTrue, IfOk, MatchOption};
 ghost use Rattle.mqtt_packet.specs.RareProperties.{no_properties};
@@ -9,8 +9,8 @@ use crate::shared::Shared;
 use std::alloc::{AllocError, Global};
 use std::marker::Model;
 
-/// The properties of a PUBLISH (section 3.3.2.3). Where it has none they take no memory, and where it has some they stand apart, so
-/// that a packet is small on its way, and are shared with the message that is kept of it and with the packets in which that goes out.
+/// The properties of a PUBLISH (section 3.3.2.3), all but those that are fields of its own. Where it has none they take no memory, and where it has
+/// some they stand apart, so that a packet is small on its way, and are shared with the message that is kept of it and with the packets in which that goes out.
 /// Contracts see them as [`PublishProperties`].
 #[derive(Debug, Drop)]
 pub struct RareProperties {
