@@ -1,5 +1,5 @@
 -- What a connection whose client has its session answers to a packet (chapter 3).
-use Rattle.std.specs.Prelude.{◌≡◌, ℕ, Bool, true, false, Option, Some, None, is_some}
+use Rattle.std.specs.Prelude.{◌≡◌, ℕ, Bool, true, false, Option, Some, None}
 use Rattle.mqtt_packet.specs.declared.packet.Packet.{Packet}
 use Rattle.mqtt_packet.specs.declared.packet.Packet.TheVariants as packets
 use Rattle.group_jobs.specs.Stamps.{Held}
@@ -8,7 +8,7 @@ use Rattle.session_desk.specs.declared.session.Membership.{Membership}
 use Rattle.conn_rules.specs.Connecting.{is_given_expiry}
 use Rattle.conn_supply.specs.declared.reply.Reply.{Reply}
 use Rattle.conn_supply.specs.SupplyCalls.{SupplyCall}
-use Rattle.conn_supply.specs.Memberships.{with_membership}
+use Rattle.conn_supply.specs.Memberships.{with_membership, with_subscription}
 use Rattle.conn_supply.specs.Replies.{going_on, closed, closing_with}
 use Rattle.conn_supply.specs.Publishing.{Publishes, IsCutShort}
 use Rattle.conn_supply.specs.Acknowledging.{Acknowledges}
@@ -23,12 +23,17 @@ with_session connected session = record { session = session; terms = connected.t
 abbrev pub joining : {P : Type 0} → ConnectedClient P → Membership P → ConnectedClient P
 joining connected membership = with_session connected (with_membership connected.session membership)
 
+-- and this Subscription Identifier
+abbrev pub subscribing : {P : Type 0} → ConnectedClient P → Membership P → Option ℕ → ConnectedClient P
+subscribing connected membership subscription = with_session connected (with_subscription (with_membership connected.session membership) subscription)
+
 abbrev pub expiring : {P : Type 0} → ConnectedClient P → ℕ → ConnectedClient P
 expiring connected seconds = with_session connected (record {
   identity = connected.session.identity;
   expiry = record { seconds = seconds; parked = connected.session.expiry.parked };
   window = connected.session.window;
   membership = connected.session.membership;
+  subscription = connected.session.subscription;
 })
 
 -- 3.14.2.2.2: an expiry at the end takes the place of the session's, but a session that ends with its connection may not be given one
@@ -48,8 +53,9 @@ module _ {S P : Type 0} (call : S → SupplyCall P → S → Type 0) (slot_of : 
       (session : Session Held P) × Acknowledges call old connected.session puback.packet_identifier puback.reason_code session new
       × (connected' ≡ with_session connected session) × (reply ≡ going_on None)
   Answers old number connected (packets.Subscribe subscribe) connected' reply new =
-      (membership : Membership P) × Subscribes call slot_of connected.terms old connected.session.membership subscribe reply membership new
-      × (connected' ≡ joining connected membership)
+      (membership : Membership P) × (subscription : Option ℕ)
+      × Subscribes call slot_of connected.terms old connected.session.membership connected.session.subscription subscribe reply membership subscription new
+      × (connected' ≡ subscribing connected membership subscription)
   Answers old number connected (packets.Unsubscribe unsubscribe) connected' reply new =
       (membership : Membership P) × Unsubscribes call slot_of old connected.session.membership unsubscribe reply membership new
       × (connected' ≡ joining connected membership)
@@ -61,8 +67,7 @@ module _ {S P : Type 0} (call : S → SupplyCall P → S → Type 0) (slot_of : 
   abbrev pub FailsToAnswer : S → ℕ → ConnectedClient P → Packet → ConnectedClient P → S → Type 0
   FailsToAnswer old number connected (packets.Publish publish) connected' new = IsCutShort call old number publish new × (connected' ≡ connected)
   FailsToAnswer old number connected (packets.Subscribe subscribe) connected' new =
-      (membership : Membership P) × AnswersSome call slot_of (is_some subscribe.properties.subscription_identifier) connected.terms old connected.session.membership
-      subscribe.subscriptions membership new
+      (membership : Membership P) × AnswersSome call slot_of connected.terms old connected.session.membership subscribe.subscriptions membership new
       × (connected' ≡ joining connected membership)
   FailsToAnswer old number connected (packets.Unsubscribe unsubscribe) connected' new = (connected' ≡ connected) × (new ≡ old)
   FailsToAnswer old number connected other connected' new = ⊥

@@ -36,6 +36,7 @@ opened session terms = record {
   expiry = record { seconds = terms.session_expiry_interval; parked = session.expiry.parked };
   window = after_up session.window terms.receive_maximum;
   membership = session.membership;
+  subscription = session.subscription;
 }
 
 -- the name of a client, where it is a text

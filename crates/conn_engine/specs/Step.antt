@@ -160,7 +160,7 @@ module _ {S P : Type 0} (call : S → SupplyCall P → S → Type 0) (slot_of : 
   abbrev pub Hands : S → ConnPhase P → List Packet → ConnPhase P → S → Type 0
   Hands old (Connected connected) sent phase new =
       (membership : Membership P) × (window : Contents Held)
-      × HandsOut call old connected.session.membership connected.session.window sent membership window new
+      × HandsOut call connected.session.subscription old connected.session.membership connected.session.window sent membership window new
       × (phase ≡ Connected (after_hand_out connected membership window))
   Hands old (Unconnected opened) sent phase new = (sent ≡ []) × (phase ≡ Unconnected opened) × (new ≡ old)
   Hands old (Waiting request ticks) sent phase new = (sent ≡ []) × (phase ≡ Waiting request ticks) × (new ≡ old)
@@ -221,7 +221,7 @@ module _ {S P : Type 0} (call : S → SupplyCall P → S → Type 0) (slot_of : 
   abbrev pub HandsLess : S → ConnPhase P → ℕ → S → Type 0
   HandsLess old (Connected connected) now new =
       (membership : Membership P) × (window : Contents Held) × (mid : S)
-      × HandsSome call old connected.session.membership connected.session.window membership window mid
+      × HandsSome call connected.session.subscription old connected.session.membership connected.session.window membership window mid
       × Parts call mid (after_hand_out connected membership window).session now new
   HandsLess old (Unconnected opened) now new = ⊥
   HandsLess old (Waiting request ticks) now new = ⊥

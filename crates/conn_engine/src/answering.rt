@@ -69,7 +69,14 @@ fn join<P: HoldingPlace, S: Supply<P>>(
     ensures visiting { S.visiting supply.new ≡ S.visiting supply.old }
 {
     let membership = connected.take_membership();
-    let (membership, replied) = subscribe(supply, alloc, membership, &connected.terms, packet);
+    let (membership, replied) = subscribe(
+        supply,
+        alloc,
+        membership,
+        &mut connected.session.subscription,
+        &connected.terms,
+        packet,
+    );
     connected.put_membership(membership);
     replied
 }

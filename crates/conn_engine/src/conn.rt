@@ -238,7 +238,7 @@ fn hand_to<P: HoldingPlace, S: Supply<P>>(
     ensures handed { MatchResult result
         (λ _. (sent : List Packet) × (packets.new.items ≡ packets.old.items ++ sent)
         × Hands S.call P.slot_of supply.old (phases.Connected connected.old) sent (phases.Connected connected.new) supply.new)
-        (λ _. HandsSome S.call supply.old connected.old.session.membership connected.old.session.window connected.new.session.membership connected.new.session.window supply.new
+        (λ _. HandsSome S.call connected.old.session.subscription supply.old connected.old.session.membership connected.old.session.window connected.new.session.membership connected.new.session.window supply.new
         × (connected.new ≡ after_hand_out connected.old connected.new.session.membership connected.new.session.window)) }
     ensures sound { IsSoundSession P.has_out connected.new.session }
     ensures visiting { S.visiting supply.new ≡ S.visiting supply.old }
@@ -247,6 +247,7 @@ fn hand_to<P: HoldingPlace, S: Supply<P>>(
     hand_out(
         supply,
         &mut session.membership,
+        session.subscription,
         &mut session.window,
         packets,
     )

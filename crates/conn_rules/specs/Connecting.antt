@@ -20,13 +20,17 @@ abbrev pub or_else : ℕ → Option ℕ → ℕ
 or_else absent None = absent
 or_else absent (Some number) = number
 
+-- the most bytes of a PUBLISH that hands a message on: those of the longest that is read, and of a Subscription Identifier (3.3.2.3.8)
+abbrev pub most_publish_bytes : ℕ
+most_publish_bytes = 65542
+
 -- 3.1.2.10 and 3.1.2.11: what a client asked for; its Receive Maximum is no more than the broker's limit (profile)
 abbrev pub terms_of : ℕ → Connect → Terms
 terms_of max_inflight c = record {
   receive_maximum = min max_inflight (or_else 65535 c.properties.receive_maximum);
   session_expiry_interval = or_else 0 c.properties.session_expiry_interval;
   keep_alive = c.keep_alive;
-  takes_all_packets = not (is_under 65536 c.properties.maximum_packet_size);
+  takes_all_packets = not (is_under most_publish_bytes c.properties.maximum_packet_size);
 }
 
 -- 3.14.2.2.2: a session that ends with its connection may not be given an expiry at the end
@@ -35,7 +39,7 @@ is_given_expiry expiry terms = nat_lt 0 expiry && terms.session_expiry_interval 
 
 -- 3.2.2.3: what the broker offers (profile)
 abbrev pub offer : Offer
-offer = record { maximum_qos = AtLeastOnce; retain_available = false; maximum_packet_size = Some 65536; subscription_identifiers_available = false }
+offer = record { maximum_qos = AtLeastOnce; retain_available = false; maximum_packet_size = Some 65536; subscription_identifiers_available = true }
 
 -- 3.1.2.11.4 and 3.1.4, of several refusals the first: a packet of less than 5 bytes holds no CONNACK; a client that takes less
 -- than 64 is refused (profile), and so is any authentication method (4.12), and an identifier of more than 128 bytes (3.1.3.1)

@@ -16,13 +16,16 @@ accepting present assigned = packets.Connack (Accepted (record { session_present
 abbrev pub refusing : ConnectRefusal → Packet
 refusing refusal = packets.Connack (Refused refusal)
 
--- 3.3: a message as it goes out: QoS 1, RETAIN 0, and DUP 1 where it was sent before
-abbrev pub job : Bool → Message → ℕ → Packet
-job dup message identifier = packets.Publish (record {
+-- 3.3: a message as it goes out: QoS 1, RETAIN 0, and DUP 1 where it was sent before, with the Subscription Identifier under which it
+-- is sent (3.3.2.3.8)
+abbrev pub job : Bool → Message → Option ℕ → ℕ → Packet
+job dup message subscription identifier = packets.Publish (record {
   dup = dup;
   retain = false;
   topic = message.topic;
   delivery = AtLeastOnce identifier;
+  message_expiry_interval = None;
+  subscription_identifier = subscription;
   properties = message.properties;
   payload = message.payload;
 })

@@ -53,10 +53,8 @@ share_answer true (Ok share) text = Join share
 share_answer false (Ok share) text = Refuse 0x83
 share_answer served (Err refusal) text = Refuse (refused_code refusal text)
 
--- An entry, of several refusals the first: a Subscription Identifier is not supported (A1, 3.2.2.3.12; profile, for now); a text
--- that is no filter and no share (8F), a filter that is not shared and QoS 0 (83, profile), and a client that does not take every
--- packet (83; profile, for now)
-abbrev pub entry_answer : Bool → Subscription → Terms → EntryAnswer
-entry_answer identified entry terms =
-    if identified then Refuse 0xA1
-    else share_answer (asks_acknowledged entry.options.maximum_qos && terms.takes_all_packets) (share_of entry.filter) entry.filter
+-- An entry, of several refusals the first: a text that is no filter and no share (8F), a filter that is not shared and QoS 0 (83,
+-- profile), and a client that does not take every packet (83; profile, for now)
+abbrev pub entry_answer : Subscription → Terms → EntryAnswer
+entry_answer entry terms =
+    share_answer (asks_acknowledged entry.options.maximum_qos && terms.takes_all_packets) (share_of entry.filter) entry.filter

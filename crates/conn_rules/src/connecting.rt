@@ -51,7 +51,7 @@ pub fn answer_to_connect(connect: &Connect) -> FirstAnswer
     FirstAnswer::Attach
 }
 
-/// What the broker offers: QoS 1, no retained messages, packets of at most 65,536 bytes, no Subscription Identifiers
+/// What the broker offers: QoS 1, no retained messages, packets of at most 65,536 bytes, and Subscription Identifiers
 /// (section 3.2.2.3, profile).
 pub fn offer() -> Offer
     ensures { result ≡ offer }
@@ -60,6 +60,6 @@ pub fn offer() -> Offer
         maximum_qos: QoS::AtLeastOnce,
         retain_available: false,
         maximum_packet_size: MaximumPacketSize::new(65_536),
-        subscription_identifiers_available: false,
+        subscription_identifiers_available: true,
     }
 }

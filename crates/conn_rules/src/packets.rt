@@ -7,8 +7,8 @@ use crate::connecting::offer;
 use group_jobs::Message;
 use mqtt_packet::{
     Acceptance, Connack, ConnectRefusal, Delivery, Disconnect, DisconnectProperties, NonEmpty,
-    Packet, PacketIdentifier, Puback, PubackProperties, Publish, ReasonCode, Suback, Text,
-    Unsuback,
+    Packet, PacketIdentifier, Puback, PubackProperties, Publish, ReasonCode, Suback,
+    SubscriptionIdentifier, Text, Unsuback,
 };
 use std::alloc::{AllocError, Global};
 
@@ -30,13 +30,19 @@ pub fn refusing(refusal: ConnectRefusal) -> Packet
     Packet::Connack(Connack::Refused(refusal))
 }
 
-/// The PUBLISH of a job (section 3.3): QoS 1, RETAIN 0, and DUP 1 where it was sent before. It shares what the message has, and takes no memory.
+/// The PUBLISH of a job (section 3.3): QoS 1, RETAIN 0, and DUP 1 where it was sent before; with the Subscription Identifier under which it
+/// is sent, if there is one (section 3.3.2.3.8). It shares what the message has, and takes no memory.
 ///
 /// # Errors
 ///
 /// There are as many owners as can be counted of what it shares.
-pub fn job(dup: bool, message: &Message, identifier: PacketIdentifier) -> Result<Packet, AllocError>
-    ensures { IfOk result (λ packet. packet ≡ job dup message.now identifier) }
+pub fn job(
+    dup: bool,
+    message: &Message,
+    subscription: Option<SubscriptionIdentifier>,
+    identifier: PacketIdentifier,
+) -> Result<Packet, AllocError>
+    ensures { IfOk result (λ packet. packet ≡ job dup message.now subscription identifier) }
 {
     let topic = message.topic.try_clone()?;
     let properties = message.properties.share()?;
@@ -46,6 +52,8 @@ pub fn job(dup: bool, message: &Message, identifier: PacketIdentifier) -> Result
         retain: false,
         topic,
         delivery: Delivery::AtLeastOnce(identifier),
+        message_expiry_interval: None,
+        subscription_identifier: subscription,
         properties,
         payload,
     }))

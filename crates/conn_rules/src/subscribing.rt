@@ -57,17 +57,10 @@ pub fn unsubscribe_refusal(unsubscribe: &Unsubscribe) -> Option<ReasonCode>
     }
 }
 
-/// What becomes of an entry of a SUBSCRIBE, with or without a Subscription Identifier, of a client of these terms.
-pub fn answer_to_entry(
-    has_subscription_identifier: bool,
-    entry: Subscription,
-    terms: &Terms,
-) -> EntryAnswer
-    ensures { result ≡ entry_answer has_subscription_identifier entry terms.now }
+/// What becomes of an entry of a SUBSCRIBE of a client of these terms.
+pub fn answer_to_entry(entry: Subscription, terms: &Terms) -> EntryAnswer
+    ensures { result ≡ entry_answer entry terms.now }
 {
-    if has_subscription_identifier {
-        return EntryAnswer::Refuse(ReasonCode::SUBSCRIPTION_IDENTIFIERS_NOT_SUPPORTED);
-    }
     let Subscription { filter, options } = entry;
     let is_served = !matches!(options.maximum_qos, QoS::AtMostOnce) && terms.takes_all_packets;
     share_answer(is_served, filter)

@@ -1,7 +1,7 @@
 -- What is handed out after the reply (sections 4.4, 4.6, 4.8.2 and 4.9).
 use Rattle.std.specs.Prelude.{◌≡◌, ◌≢◌, ◌⊎◌, ℕ, ◌+◌, ◌<◌, length, true, false, List, [], ◌∷◌, ◌++◌, Option, Some, None, Ok, Err}
 use Rattle.mqtt_packet.specs.declared.packet.Packet.{Packet}
-use Rattle.group_jobs.specs.Stamps.{Held}
+use Rattle.group_jobs.specs.Stamps.{Held, under}
 use Rattle.member_window.specs.Identifiers.{identifiers, IsLeastFree}
 use Rattle.member_window.specs.Contents.{Contents, held_of, HasRoom, IsNextResend, after_put, after_resend}
 use Rattle.session_desk.specs.declared.session.Membership.{Membership}
@@ -15,7 +15,7 @@ use Rattle.conn_supply.specs.SupplyCalls.SupplyCall.{MayTake, Take, TakeBack, Ta
 abbrev pub SendsAgain : Contents Held → List Packet → Contents Held → Type 0
 SendsAgain old [] new = IsNextResend old None × (new ≡ old)
 SendsAgain old (packet ∷ packets) new =
-    (entry : ℕ × Held) × IsNextResend old (Some entry) × (packet ≡ job true entry.1.message entry.0)
+    (entry : ℕ × Held) × IsNextResend old (Some entry) × (packet ≡ job true entry.1.message entry.1.subscription entry.0)
     × SendsAgain (after_resend old (Some entry)) packets new
 
 -- these are sent again, the oldest first, while the quota lets it: a beginning of all that would be
@@ -47,17 +47,6 @@ module _ {S P : Type 0} (call : S → SupplyCall P → S → Type 0) where
       ((refusal : NoMemory) × call old (TakeBack place place' (Err refusal)) new)
       ⊎ ((refusal : NoMemory) × (between : P) × (mid : S) × call old (TakeBack place between (Ok None)) mid × call mid (Take between place' (Err refusal)) new)
 
-  -- a message that the place is handed, where there is room and the supply allows one more, goes out with DUP 0, under the least free identifier
-  pub record SendsOne (old : S) (place : P) (window : Contents Held) (packet : Packet) (place' : P) (window' : Contents Held) (new : S) : Type 0 where
-    pub envelope : Held
-    pub identifier : ℕ
-    pub room : HasRoom window
-    pub allowed : call old (MayTake place true) old
-    pub asked : AsksFor old place (Some envelope) place' new
-    pub free : IsLeastFree (identifiers (held_of window)) identifier
-    pub put : window' ≡ after_put window identifier envelope
-    pub sent : packet ≡ job false envelope.message identifier
-
   -- there is no room; or there is none for the place; or the supply allows no more now, and nothing has changed
   abbrev pub SendsNone : S → P → Contents Held → P → Contents Held → S → Type 0
   SendsNone old place window place' window' new =
@@ -66,26 +55,40 @@ module _ {S P : Type 0} (call : S → SupplyCall P → S → Type 0) where
       ⊎ (HasRoom window × call old (MayTake place true) old × AsksFor old place None place' new)
       ⊎ (HasRoom window × (place' ≡ place) × (new ≡ old) × call old (MayTake place false) old))
 
-  -- messages go out while there is room, until there is none for the place or the supply allows no more
-  abbrev pub SendsFresh : S → P → Contents Held → List Packet → P → Contents Held → S → Type 0
-  SendsFresh old place window [] place' window' new = SendsNone old place window place' window' new
-  SendsFresh old place window (packet ∷ packets) place' window' new =
-      (between : P) × (window_between : Contents Held) × (mid : S)
-      × SendsOne old place window packet between window_between mid
-      × SendsFresh mid between window_between packets place' window' new
-
   -- who leaves is handed nothing fresh, and is no member once nothing is left
   abbrev pub LeavesWith : S → P → Contents Held → Membership P → S → Type 0
   LeavesWith old place window membership new =
       ((held_of window ≡ []) × (membership ≡ NotMember) × call old (TakePlace place) new)
       ⊎ ((held_of window ≢ []) × (membership ≡ Leaving place) × (new ≡ old))
 
+-- for a session that has this Subscription Identifier, or none (3.3.2.3.8)
+module _ {S P : Type 0} (call : S → SupplyCall P → S → Type 0) (subscription : Option ℕ) where
+  -- a message that the place is handed, where there is room and the supply allows one more, goes out with DUP 0, under the least free
+  -- identifier, and under the Subscription Identifier that the session has then
+  pub record SendsOne (old : S) (place : P) (window : Contents Held) (packet : Packet) (place' : P) (window' : Contents Held) (new : S) : Type 0 where
+    pub envelope : Held
+    pub identifier : ℕ
+    pub room : HasRoom window
+    pub allowed : call old (MayTake place true) old
+    pub asked : AsksFor call old place (Some envelope) place' new
+    pub free : IsLeastFree (identifiers (held_of window)) identifier
+    pub put : window' ≡ after_put window identifier (under subscription envelope)
+    pub sent : packet ≡ job false envelope.message subscription identifier
+
+  -- messages go out while there is room, until there is none for the place or the supply allows no more
+  abbrev pub SendsFresh : S → P → Contents Held → List Packet → P → Contents Held → S → Type 0
+  SendsFresh old place window [] place' window' new = SendsNone call old place window place' window' new
+  SendsFresh old place window (packet ∷ packets) place' window' new =
+      (between : P) × (window_between : Contents Held) × (mid : S)
+      × SendsOne old place window packet between window_between mid
+      × SendsFresh mid between window_between packets place' window' new
+
   -- what is fresh, for a session with this membership
   abbrev pub HandsFresh : S → Membership P → Contents Held → List Packet → Membership P → Contents Held → S → Type 0
   HandsFresh old NotMember window packets membership' window' new = (packets ≡ []) × (membership' ≡ NotMember) × (window' ≡ window) × (new ≡ old)
   HandsFresh old (Member place) window packets membership' window' new =
       (place' : P) × (membership' ≡ Member place') × SendsFresh old place window packets place' window' new
-  HandsFresh old (Leaving place) window packets membership' window' new = (packets ≡ []) × (window' ≡ window) × LeavesWith old place window membership' new
+  HandsFresh old (Leaving place) window packets membership' window' new = (packets ≡ []) × (window' ≡ window) × LeavesWith call old place window membership' new
 
   -- first what waits is sent again, then what is fresh
   pub record HandsOut (old : S) (membership : Membership P) (window : Contents Held) (packets : List Packet) (membership' : Membership P) (window' : Contents Held) (new : S) : Type 0 where
@@ -99,11 +102,11 @@ module _ {S P : Type 0} (call : S → SupplyCall P → S → Type 0) where
   -- where an allocation failed, what is held stays, and these messages were put after it, each where there was room and the supply allowed one more
   abbrev pub TakesSome : S → P → Contents Held → List Held → P → Contents Held → S → Type 0
   TakesSome old place window [] place' window' new =
-      (window' ≡ window) × (((place' ≡ place) × (new ≡ old)) ⊎ (HasRoom window × call old (MayTake place true) old × IsRefused old place place' new))
+      (window' ≡ window) × (((place' ≡ place) × (new ≡ old)) ⊎ (HasRoom window × call old (MayTake place true) old × IsRefused call old place place' new))
   TakesSome old place window (envelope ∷ envelopes) place' window' new =
-      (identifier : ℕ) × (between : P) × (mid : S) × call old (MayTake place true) old × AsksFor old place (Some envelope) between mid
+      (identifier : ℕ) × (between : P) × (mid : S) × call old (MayTake place true) old × AsksFor call old place (Some envelope) between mid
       × IsLeastFree (identifiers (held_of window)) identifier × HasRoom window
-      × TakesSome mid between (after_put window identifier envelope) envelopes place' window' new
+      × TakesSome mid between (after_put window identifier (under subscription envelope)) envelopes place' window' new
 
   -- where an allocation failed, what was done is a beginning of what is due: of what waits these were sent again; or all that could be, and then a
   -- member was handed these messages

@@ -1,6 +1,6 @@
 -- What is out at a place: the messages that its member holds, and no others.
-use Rattle.std.specs.Prelude.{◌≡◌, List, [], ◌∷◌, ◌++◌, map, Option, Some, None, Result, Ok, Err}
-use Rattle.group_jobs.specs.Stamps.{Held}
+use Rattle.std.specs.Prelude.{◌≡◌, ℕ, List, [], ◌∷◌, ◌++◌, map, Option, Some, None, Result, Ok, Err}
+use Rattle.group_jobs.specs.Stamps.{Held, under}
 use Rattle.member_window.specs.Contents.{Contents, held_of}
 use Rattle.session_desk.specs.declared.session.Session.{Session}
 use Rattle.session_desk.specs.declared.session.Membership.{Membership}
@@ -18,11 +18,11 @@ pub record IsOneOf (all : List Held) (envelope : Held) (others : List Held) : Ty
   pub together : all ≡ before ++ envelope ∷ behind
   pub apart : others ≡ before ++ behind
 
--- these, and after them the message that was found, if one was
-abbrev pub with_found : List Held → Result (Option Held) NoMemory → List Held
-with_found all (Ok (Some envelope)) = all ++ envelope ∷ []
-with_found all (Ok None) = all
-with_found all (Err refusal) = all
+-- these, and after them the message that was found, if one was, under that Subscription Identifier
+abbrev pub with_found : List Held → Option ℕ → Result (Option Held) NoMemory → List Held
+with_found all subscription (Ok (Some envelope)) = all ++ under subscription envelope ∷ []
+with_found all subscription (Ok None) = all
+with_found all subscription (Err refusal) = all
 
 module _ {P : Type 0} (HasOut : P → List Held → Type 0) where
   -- what a member holds is out at its place; who is no member holds nothing
@@ -49,9 +49,9 @@ module _ {P : Type 0} (HasOut : P → List Held → Type 0) where
   abbrev pub KeepsOut : P → P → Type 0
   KeepsOut old new = (all : List Held) → HasOut old all → HasOut new all
 
-  -- and the message that was found
+  -- and the message that was found, under whatever Subscription Identifier it is sent
   abbrev pub FindsOut : P → Result (Option Held) NoMemory → P → Type 0
-  FindsOut old found new = (all : List Held) → HasOut old all → HasOut new (with_found all found)
+  FindsOut old found new = (all : List Held) (subscription : Option ℕ) → HasOut old all → HasOut new (with_found all subscription found)
 
   -- all but this message
   abbrev pub SpendsOut : P → Held → P → Type 0

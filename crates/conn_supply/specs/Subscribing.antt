@@ -1,5 +1,6 @@
 -- What a connection answers to a SUBSCRIBE and to an UNSUBSCRIBE, and whom it asks (sections 3.8 to 3.11).
-use Rattle.std.specs.Prelude.{◌≡◌, ◌≢◌, ℕ, Bool, List, [], ◌∷◌, Option, Some, None, Result, Ok, Err, ◌⊎◌, is_some}
+use Rattle.std.specs.Prelude.{◌≡◌, ◌≢◌, ℕ, Bool, List, [], ◌∷◌, Option, Some, None, Result, Ok, Err, ◌⊎◌, ◌==◌, if◌then◌else◌}
+use Rattle.std.specs.List.{list_any}
 use Rattle.mqtt_packet.specs.declared.packet.Subscribe.{Subscribe}
 use Rattle.mqtt_packet.specs.declared.packet.Subscription.{Subscription}
 use Rattle.mqtt_packet.specs.declared.packet.Unsubscribe.{Unsubscribe}
@@ -18,6 +19,10 @@ use Rattle.conn_supply.specs.declared.supply.BindRefusal.TheVariants as refusal
 use Rattle.conn_supply.specs.SupplyCalls.{SupplyCall}
 use Rattle.conn_supply.specs.SupplyCalls.SupplyCall.{Bind, Find, LendPlace}
 use Rattle.conn_supply.specs.Replies.{going_on, closing_with}
+
+-- 3.8.2.1.2 and 3.8.4: a subscription that is made, or made again, has the Subscription Identifier of its SUBSCRIBE, or none where that has none
+abbrev pub subscription_after : List ℕ → Option ℕ → Option ℕ → Option ℕ
+subscription_after codes identifier subscription = if list_any (λ code. code == 1) codes then identifier else subscription
 
 module _ {S P : Type 0} (call : S → SupplyCall P → S → Type 0) (slot_of : P → ℕ) where
   -- a place in the group of this slot is asked for, and is of that group: 97 where none is free
@@ -53,36 +58,39 @@ module _ {S P : Type 0} (call : S → SupplyCall P → S → Type 0) (slot_of : 
   IsUnbound old membership membership' new = (share : Share) × call old (Bind share (Err refusal.Memory)) new × (membership' ≡ membership)
 
   -- the entries of a SUBSCRIBE, in their order: each sees what the earlier ones did
-  abbrev pub AnswersEntries : Bool → Terms → S → Membership P → List Subscription → List ℕ → Membership P → S → Type 0
-  AnswersEntries identified terms old membership [] codes membership' new = (codes ≡ []) × (membership' ≡ membership) × (new ≡ old)
-  AnswersEntries identified terms old membership (entry ∷ entries) codes membership' new =
+  abbrev pub AnswersEntries : Terms → S → Membership P → List Subscription → List ℕ → Membership P → S → Type 0
+  AnswersEntries terms old membership [] codes membership' new = (codes ≡ []) × (membership' ≡ membership) × (new ≡ old)
+  AnswersEntries terms old membership (entry ∷ entries) codes membership' new =
       (code : ℕ) × (rest : List ℕ) × (between : Membership P) × (mid : S)
-      × AnswersEntry old membership (entry_answer identified entry terms) code between mid
-      × AnswersEntries identified terms mid between entries rest membership' new × (codes ≡ code ∷ rest)
+      × AnswersEntry old membership (entry_answer entry terms) code between mid
+      × AnswersEntries terms mid between entries rest membership' new × (codes ≡ code ∷ rest)
 
   -- some of the entries were answered, from the first on, at least one; or there was no memory for the first
-  abbrev pub AnswersFirst : Bool → Terms → S → Membership P → List Subscription → Membership P → S → Type 0
-  AnswersFirst identified terms old membership [] membership' new = ⊥
-  AnswersFirst identified terms old membership (entry ∷ entries) membership' new =
+  abbrev pub AnswersFirst : Terms → S → Membership P → List Subscription → Membership P → S → Type 0
+  AnswersFirst terms old membership [] membership' new = ⊥
+  AnswersFirst terms old membership (entry ∷ entries) membership' new =
       IsUnbound old membership membership' new
       ⊎ ((code : ℕ) × (between : Membership P) × (mid : S)
-      × AnswersEntry old membership (entry_answer identified entry terms) code between mid
-      × AnswersFirst identified terms mid between entries membership' new)
+      × AnswersEntry old membership (entry_answer entry terms) code between mid
+      × AnswersFirst terms mid between entries membership' new)
 
   -- where an allocation failed, some of the entries were answered, from the first on, or none
-  abbrev pub AnswersSome : Bool → Terms → S → Membership P → List Subscription → Membership P → S → Type 0
-  AnswersSome identified terms old membership entries membership' new =
-      ((membership' ≡ membership) × (new ≡ old)) ⊎ AnswersFirst identified terms old membership entries membership' new
+  abbrev pub AnswersSome : Terms → S → Membership P → List Subscription → Membership P → S → Type 0
+  AnswersSome terms old membership entries membership' new =
+      ((membership' ≡ membership) × (new ≡ old)) ⊎ AnswersFirst terms old membership entries membership' new
 
   -- a SUBSCRIBE closes the connection, or is answered by a SUBACK with a code for each entry
-  abbrev pub SubscribesAs : Option ℕ → Terms → S → Membership P → Subscribe → Reply → Membership P → S → Type 0
-  SubscribesAs (Some code) terms old membership subscribe reply membership' new = (reply ≡ closing_with code) × (membership' ≡ membership) × (new ≡ old)
-  SubscribesAs None terms old membership subscribe reply membership' new =
+  abbrev pub SubscribesAs : Option ℕ → Terms → S → Membership P → Option ℕ → Subscribe → Reply → Membership P → Option ℕ → S → Type 0
+  SubscribesAs (Some code) terms old membership subscription subscribe reply membership' subscription' new =
+      (reply ≡ closing_with code) × (membership' ≡ membership) × (subscription' ≡ subscription) × (new ≡ old)
+  SubscribesAs None terms old membership subscription subscribe reply membership' subscription' new =
       (codes : List ℕ) × (reply ≡ going_on (Some (suback subscribe.packet_identifier codes)))
-      × AnswersEntries (is_some subscribe.properties.subscription_identifier) terms old membership subscribe.subscriptions codes membership' new
+      × AnswersEntries terms old membership subscribe.subscriptions codes membership' new
+      × (subscription' ≡ subscription_after codes subscribe.properties.subscription_identifier subscription)
 
-  abbrev pub Subscribes : Terms → S → Membership P → Subscribe → Reply → Membership P → S → Type 0
-  Subscribes terms old membership subscribe reply membership' new = SubscribesAs (subscribe_refusal subscribe) terms old membership subscribe reply membership' new
+  abbrev pub Subscribes : Terms → S → Membership P → Option ℕ → Subscribe → Reply → Membership P → Option ℕ → S → Type 0
+  Subscribes terms old membership subscription subscribe reply membership' subscription' new =
+      SubscribesAs (subscribe_refusal subscribe) terms old membership subscription subscribe reply membership' subscription' new
 
   -- a member leaves by the very text of its share
   abbrev pub LeavesFrom : P → Option ℕ → ℕ → Membership P → Type 0

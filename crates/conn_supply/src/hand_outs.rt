@@ -13,12 +13,13 @@ use crate::supply::{HoldingPlace, NoMemory, Supply};
 use conn_rules::job;
 use group_jobs::Envelope;
 use member_window::Window;
-use mqtt_packet::{Packet, PacketIdentifier};
+use mqtt_packet::{Packet, PacketIdentifier, SubscriptionIdentifier};
 use session_desk::Membership;
 use std::mem;
 
-/// Hands out to a session what is due: what waits is sent again; then a member is handed messages while there is room, and who
-/// leaves is no member once it holds nothing. The packets go after those that are there.
+/// Hands out to a session what is due: what waits is sent again; then a member is handed messages while there is room, under the
+/// session's Subscription Identifier (section 3.3.2.3.8), and who leaves is no member once it holds nothing. The packets go after those
+/// that are there.
 ///
 /// A visit of the supply is going on. What the session holds is out at its place, then and from then on.
 ///
@@ -28,6 +29,7 @@ use std::mem;
 pub fn hand_out<P: HoldingPlace, S: Supply<P>>(
     supply: &mut S,
     membership: &mut Membership<P>,
+    subscription: Option<SubscriptionIdentifier>,
     window: &mut Window<Envelope>,
     packets: &mut Vec<Packet>,
 ) -> Result<(), NoMemory>
@@ -35,8 +37,8 @@ pub fn hand_out<P: HoldingPlace, S: Supply<P>>(
     requires visiting { S.visiting supply.old ≡ true }
     ensures handed { MatchResult result
         (λ _. (sent : List Packet) × (packets.new.items ≡ packets.old.items ++ sent)
-        × HandsOut S.call supply.old membership.old window.old sent membership.new window.new supply.new)
-        (λ _. HandsSome S.call supply.old membership.old window.old membership.new window.new supply.new) }
+        × HandsOut S.call subscription supply.old membership.old window.old sent membership.new window.new supply.new)
+        (λ _. HandsSome S.call subscription supply.old membership.old window.old membership.new window.new supply.new) }
     ensures sound { window.new.retired ≡ window.old.retired }
     ensures out { AreOut P.has_out membership.new (messages window.new) }
     ensures visiting { S.visiting supply.new ≡ S.visiting supply.old }
@@ -46,7 +48,7 @@ pub fn hand_out<P: HoldingPlace, S: Supply<P>>(
     }
     match membership {
         Membership::NotMember => Ok(()),
-        Membership::Member(place) => match send_fresh(supply, place, window, packets) {
+        Membership::Member(place) => match send_fresh(supply, place, subscription, window, packets) {
             Ok(()) => Ok(()),
             Err(NoMemory) => Err(NoMemory),
         },
@@ -79,7 +81,7 @@ fn next_again(window: &mut Window<Envelope>) -> Result<Option<Packet>, NoMemory>
     ensures sent { IfOk result (λ sent. MatchOption sent
         (IsNextResend window.old None × (window.new ≡ window.old))
         (λ packet. (entry : ℕ × Held) × IsNextResend window.old (Some entry) × (window.new ≡ after_resend window.old (Some entry))
-        × (packet ≡ job true entry.1.message entry.0))) }
+        × (packet ≡ job true entry.1.message entry.1.subscription entry.0))) }
     ensures begun { OnErr result ((again : List (ℕ × Held)) × SendsSomeAgain window.old again window.new) }
     ensures kept { KeepsHeld window.old window.new }
 {
@@ -87,7 +89,12 @@ fn next_again(window: &mut Window<Envelope>) -> Result<Option<Packet>, NoMemory>
     let Some((identifier, envelope)) = window.next_resend() else {
         return Ok(None);
     };
-    match job(true, envelope.message(), identifier_of(identifier)) {
+    match job(
+        true,
+        envelope.message(),
+        envelope.subscription(),
+        identifier_of(identifier),
+    ) {
         Ok(packet) => Ok(Some(packet)),
         Err(_) => Err(NoMemory),
     }
@@ -109,24 +116,25 @@ fn identifier_of(number: u16) -> PacketIdentifier
 fn send_fresh<P: HoldingPlace, S: Supply<P>>(
     supply: &mut S,
     place: &mut P,
+    subscription: Option<SubscriptionIdentifier>,
     window: &mut Window<Envelope>,
     packets: &mut Vec<Packet>,
 ) -> Result<(), NoMemory>
     requires out { P.has_out place.old (messages window.old) }
     requires visiting { S.visiting supply.old ≡ true }
     ensures sent { OnOk result ((sent : List Packet) × (packets.new.items ≡ packets.old.items ++ sent)
-        × SendsFresh S.call supply.old place.old window.old sent place.new window.new supply.new) }
-    ensures kept { OnErr result ((taken : List Held) × TakesSome S.call supply.old place.old window.old taken place.new window.new supply.new) }
+        × SendsFresh S.call subscription supply.old place.old window.old sent place.new window.new supply.new) }
+    ensures kept { OnErr result ((taken : List Held) × TakesSome S.call subscription supply.old place.old window.old taken place.new window.new supply.new) }
     ensures sound { window.new.retired ≡ window.old.retired }
     ensures out { P.has_out place.new (messages window.new) }
     ensures visiting { S.visiting supply.new ≡ S.visiting supply.old }
 {
     packets.reserve(1)?;
-    let Some(packet) = next_fresh(supply, place, window)? else {
+    let Some(packet) = next_fresh(supply, place, subscription, window)? else {
         return Ok(());
     };
     packets.push_reserved(packet);
-    match send_fresh(supply, place, window, packets) {
+    match send_fresh(supply, place, subscription, window, packets) {
         Ok(()) => Ok(()),
         Err(NoMemory) => Err(NoMemory),
     }
@@ -136,14 +144,15 @@ fn send_fresh<P: HoldingPlace, S: Supply<P>>(
 fn next_fresh<P: HoldingPlace, S: Supply<P>>(
     supply: &mut S,
     place: &mut P,
+    subscription: Option<SubscriptionIdentifier>,
     window: &mut Window<Envelope>,
 ) -> Result<Option<Packet>, NoMemory>
     requires out { P.has_out place.old (messages window.old) }
     requires visiting { S.visiting supply.old ≡ true }
     ensures sent { IfOk result (λ sent. MatchOption sent
         (SendsNone S.call supply.old place.old window.old place.new window.new supply.new)
-        (λ packet. SendsOne S.call supply.old place.old window.old packet place.new window.new supply.new × HoldsMore window.old window.new)) }
-    ensures kept { OnErr result ((taken : List Held) × TakesSome S.call supply.old place.old window.old taken place.new window.new supply.new) }
+        (λ packet. SendsOne S.call subscription supply.old place.old window.old packet place.new window.new supply.new × HoldsMore window.old window.new)) }
+    ensures kept { OnErr result ((taken : List Held) × TakesSome S.call subscription supply.old place.old window.old taken place.new window.new supply.new) }
     ensures sound { window.new.retired ≡ window.old.retired }
     ensures out { P.has_out place.new (messages window.new) }
     ensures visiting { S.visiting supply.new ≡ S.visiting supply.old }
@@ -155,7 +164,7 @@ fn next_fresh<P: HoldingPlace, S: Supply<P>>(
         return Ok(None);
     }
     match ask(supply, place) {
-        Ok(Some(envelope)) => match put(window, envelope) {
+        Ok(Some(envelope)) => match put(window, envelope.under(subscription)) {
             Ok(packet) => Ok(Some(packet)),
             Err(NoMemory) => Err(NoMemory),
         },
@@ -169,15 +178,21 @@ fn put(window: &mut Window<Envelope>, envelope: Envelope) -> Result<Packet, NoMe
     requires { HasRoom window.old }
     ensures put { (identifier : ℕ) × IsLeastFree (identifiers (held_of window.old)) identifier
         × (window.new ≡ after_put window.old identifier envelope)
-        × IfOk result (λ packet. packet ≡ job false envelope.message identifier) }
+        × IfOk result (λ packet. packet ≡ job false envelope.message envelope.subscription identifier) }
     ensures progress { HoldsMore window.old window.new }
     ensures sound { window.new.retired ≡ window.old.retired }
     ensures held { messages window.new ≡ messages window.old ++ envelope ∷ [] }
 {
     let _held = window.len();
     let shared = envelope.message().share();
+    let subscription = envelope.subscription();
     match window.put(envelope) {
-        Ok(identifier) => Ok(job(false, &*shared?, identifier_of(identifier))?),
+        Ok(identifier) => Ok(job(
+            false,
+            &*shared?,
+            subscription,
+            identifier_of(identifier),
+        )?),
         Err(_back) => unreachable!(),
     }
 }

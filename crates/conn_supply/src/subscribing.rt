@@ -1,5 +1,6 @@
 //! The answers to a SUBSCRIBE and to an UNSUBSCRIBE (sections 3.8 to 3.11).
-ghost use Rattle.std.specs.Prelude.{◌≡◌, ◌<◌, ◌≤◌, ◌+◌, ◌++◌, ◌↔◌, List, ℕ, Option, Some, length, IsTrue, MatchResult, vec_len, vec_capacity, is_some};
+ghost use Rattle.std.specs.Prelude.{◌≡◌, ◌<◌, ◌≤◌, ◌+◌, ◌++◌, ◌↔◌, List, ℕ, Option, Some, length, IsTrue, MatchResult, vec_len, vec_capacity, ◌==◌};
+ghost use Rattle.std.specs.List.{list_any};
 ghost use Rattle.mqtt_topic.specs.Names.{share_of};
 ghost use Rattle.conn_supply.specs.SupplyCalls.SupplyCall.{Find};
 ghost use Rattle.conn_supply.specs.Holding.{StayOut};
@@ -15,51 +16,59 @@ use conn_rules::{
     EntryAnswer, Terms, answer_to_entry, suback, subscribe_refusal, unsuback, unsubscribe_refusal,
 };
 use mqtt_packet::{
-    NonEmpty, PacketIdentifier, ReasonCode, Subscribe, Subscription, Text, Unsubscribe,
+    NonEmpty, PacketIdentifier, ReasonCode, Subscribe, Subscription, SubscriptionIdentifier, Text,
+    Unsubscribe,
 };
 use mqtt_topic::Share;
 use session_desk::{Membership, Place};
 use std::alloc::Global;
 use std::vec::IntoIter;
 
-/// Answers a SUBSCRIBE of a session with this membership, which comes back as it is from then on.
+/// Answers a SUBSCRIBE of a session with this membership, which comes back as it is from then on. Where an entry is granted, the session's
+/// Subscription Identifier is that of the SUBSCRIBE from then on, or none where it has none (section 3.8.2.1.2).
 ///
 /// # Errors
 ///
-/// Lack of memory; some of the entries may have been answered.
+/// Lack of memory; some of the entries may have been answered, and the Subscription Identifier is as it was.
 pub fn subscribe<P: HoldingPlace, S: Supply<P>>(
     supply: &mut S,
     alloc: Global,
     membership: Membership<P>,
+    subscription: &mut Option<SubscriptionIdentifier>,
     terms: &Terms,
     subscribe: Subscribe,
 ) -> (Membership<P>, Result<Reply, NoMemory>)
     ensures answered { MatchResult result.1
-        (λ reply. Subscribes S.call P.slot_of terms.now supply.old membership subscribe reply result.0 supply.new)
-        (λ _. AnswersSome S.call P.slot_of (is_some subscribe.properties.subscription_identifier) terms.now supply.old membership subscribe.subscriptions result.0 supply.new) }
+        (λ reply. Subscribes S.call P.slot_of terms.now supply.old membership subscription.old subscribe reply result.0 subscription.new supply.new)
+        (λ _. AnswersSome S.call P.slot_of terms.now supply.old membership subscribe.subscriptions result.0 supply.new × (subscription.new ≡ subscription.old)) }
     ensures out { StayOut P.has_out membership result.0 }
     ensures visiting { S.visiting supply.new ≡ S.visiting supply.old }
 {
     if let Some(code) = subscribe_refusal(&subscribe) {
         return (membership, Ok(Reply::closing_with(alloc, code)));
     }
-    let identified = subscribe.properties.subscription_identifier.is_some();
+    let asked = subscribe.properties.subscription_identifier;
     let identifier = subscribe.packet_identifier;
     let entries = subscribe.subscriptions.into_vec();
     let Ok(mut codes) = Vec::with_capacity(alloc, entries.len()) else {
         return (membership, Err(NoMemory));
     };
-    match answer_entries(
-        supply,
-        membership,
-        identified,
-        terms,
-        entries.into_iter(),
-        &mut codes,
-    ) {
-        (membership, Ok(())) => (membership, Ok(granted(identifier, codes))),
+    match answer_entries(supply, membership, terms, entries.into_iter(), &mut codes) {
+        (membership, Ok(())) => {
+            if has_granted(&codes) {
+                *subscription = asked;
+            }
+            (membership, Ok(granted(identifier, codes)))
+        }
         (membership, Err(NoMemory)) => (membership, Err(NoMemory)),
     }
+}
+
+/// Whether one of these codes grants a subscription.
+fn has_granted(codes: &[ReasonCode]) -> bool
+    ensures { result ≡ list_any (λ code. code == 1) codes.now }
+{
+    codes.iter().any(|code| *code == ReasonCode::GRANTED_QOS_1)
 }
 
 /// The SUBACK with these codes.
@@ -77,7 +86,6 @@ fn granted(identifier: PacketIdentifier, codes: Vec<ReasonCode>) -> Reply
 fn answer_entries<P: HoldingPlace, S: Supply<P>>(
     supply: &mut S,
     membership: Membership<P>,
-    identified: bool,
     terms: &Terms,
     mut entries: IntoIter<Subscription>,
     codes: &mut Vec<ReasonCode>,
@@ -85,23 +93,19 @@ fn answer_entries<P: HoldingPlace, S: Supply<P>>(
     requires room { vec_len codes.old + into_iter_len entries ≤ vec_capacity codes.old }
     requires counted { length (into_iter_items entries) ≡ into_iter_len entries }
     ensures answered { MatchResult result.1
-        (λ _. (rest : List ℕ) × AnswersEntries S.call P.slot_of identified terms.now supply.old membership (into_iter_items entries) rest result.0 supply.new
+        (λ _. (rest : List ℕ) × AnswersEntries S.call P.slot_of terms.now supply.old membership (into_iter_items entries) rest result.0 supply.new
         × (codes.new.items ≡ codes.old.items ++ rest) × (length rest ≡ into_iter_len entries))
-        (λ _. AnswersFirst S.call P.slot_of identified terms.now supply.old membership (into_iter_items entries) result.0 supply.new) }
+        (λ _. AnswersFirst S.call P.slot_of terms.now supply.old membership (into_iter_items entries) result.0 supply.new) }
     ensures out { StayOut P.has_out membership result.0 }
     ensures visiting { S.visiting supply.new ≡ S.visiting supply.old }
 {
     let Some(entry) = entries.next() else {
         return (membership, Ok(()));
     };
-    match answer_entry(
-        supply,
-        membership,
-        answer_to_entry(identified, entry, terms),
-    ) {
+    match answer_entry(supply, membership, answer_to_entry(entry, terms)) {
         (membership, Ok(code)) => {
             codes.push_reserved(code);
-            answer_entries(supply, membership, identified, terms, entries, codes)
+            answer_entries(supply, membership, terms, entries, codes)
         }
         (membership, Err(NoMemory)) => (membership, Err(NoMemory)),
     }
