@@ -1,5 +1,5 @@
 -- What is out at a place, from call to call.
-use Rattle.std.proofs.Common.{◌≡◌, ◌+◌, ◌≤◌, Bool, true, false, cond, eqb, eqb-true, List, [], ◌∷◌, ◌++◌, All, Contains, Option, Some, None, Result, Ok, Err, refl, sym, ap, ◌∙◌, subst, arith}
+use Rattle.std.proofs.Common.{◌≡◌, ℕ, ◌+◌, ◌≤◌, Bool, true, false, cond, eqb, eqb-true, List, [], ◌∷◌, ◌++◌, All, Contains, Option, Some, None, Result, Ok, Err, refl, sym, ap, ◌∙◌, subst, arith}
 use Rattle.std.specs.Prelude.{◌&&◌}
 use Rattle.std.proofs.lemmas.List.{map-append}
 use Rattle.std.proofs.lemmas.List.Elements.{All-nil, All-cons, All-head, All-tail, All-append, All-push, All-weaker}
@@ -9,7 +9,7 @@ use Rattle.dispatch_core.proofs.JobLists.{count_of-append, count_of-cons, count_
 use Rattle.group_jobs.specs.declared.error.JobError.{JobError}
 use Rattle.group_jobs.specs.declared.fate.Fate.{Fate}
 use Rattle.group_jobs.specs.declared.ledger.Ledger.{Ledger}
-use Rattle.group_jobs.specs.Stamps.{Held, job_of}
+use Rattle.group_jobs.specs.Stamps.{Held, job_of, under}
 use Rattle.group_jobs.specs.Dockets.{TakesOff}
 use Rattle.group_queue.specs.declared.posted.Posted.{Posted}
 use Rattle.group_queue.specs.declared.view.Bag.{Bag}
@@ -51,14 +51,15 @@ with_one job one front behind = omega (arith, count_of-append job front (one ∷
 keeps : (old new : PlaceState) → IsSame old new → new.docket.out ≡ old.docket.out → KeepsOut HasOut old new
 keeps old new same out all has = record { its = stays old new all same has.its; jobs = λ job. has.jobs job ∙ ap (count_of job) (sym out) }
 
-finds : (old new : PlaceState) (posted : Posted) (envelope : Held) (all : List Held) → IsSame old new → IsHandedOut old posted envelope new → HasOut old all → HasOut new (all ++ envelope ∷ [])
-finds old new posted envelope all same handed has = record {
-  its = All-push (IsHandedTo new) all envelope (stays old new all same has.its)
+finds : (old new : PlaceState) (posted : Posted) (envelope : Held) (all : List Held) (subscription : Option ℕ) → IsSame old new → IsHandedOut old posted envelope new → HasOut old all
+    → HasOut new (all ++ under subscription envelope ∷ [])
+finds old new posted envelope all subscription same handed has = record {
+  its = All-push (IsHandedTo new) all (under subscription envelope) (stays old new all same has.its)
       (ap (λ (e : Held). e.stamp.group) handed.envelope_is ∙ sym same.group, ap (λ (e : Held). e.place) handed.envelope_is ∙ sym same.number);
   jobs = λ job. omega (
     arith,
     has.jobs job,
-    ap (count_of job) (map-append (λ (e : Held). job_of e.stamp) all (envelope ∷ [])),
+    ap (count_of job) (map-append (λ (e : Held). job_of e.stamp) all (under subscription envelope ∷ [])),
     count_of-append job (jobs_out all) (job_of envelope.stamp ∷ []),
     ap (λ (e : Held). count_of job (job_of e.stamp ∷ [])) handed.envelope_is,
     ap (count_of job) handed.out,
@@ -110,16 +111,16 @@ of_kept old new keep = keeps old new (record { group = ap (λ (p : PlaceState). 
 
 -- what the calls of a group say, as what is out
 pub taken : (saw : List Posted → List View → Type 0) (old new : PlaceState) (answer : Result (Option Held) NoMemory) → TakeAnswers saw old (in_group answer) new → FindsOut HasOut old answer new
-taken saw old new (Ok (Some envelope)) is all has =
-    finds old new is.posted envelope all (record { group = ap (λ (p : PlaceState). p.group) is.others; number = ap (λ (p : PlaceState). p.number) is.others }) is.handed has
-taken saw old new (Ok None) is all has = of_kept old new is.0 all has
-taken saw old new (Err refusal) is all has = of_kept old new is.0 all has
+taken saw old new (Ok (Some envelope)) is all subscription has =
+    finds old new is.posted envelope all subscription (record { group = ap (λ (p : PlaceState). p.group) is.others; number = ap (λ (p : PlaceState). p.number) is.others }) is.handed has
+taken saw old new (Ok None) is all subscription has = of_kept old new is.0 all has
+taken saw old new (Err refusal) is all subscription has = of_kept old new is.0 all has
 
 pub taken_back : (saw : List Posted → List Bag → Type 0) (old new : PlaceState) (answer : Result (Option Held) NoMemory) → TakeBackAnswers saw old (in_group answer) new → FindsOut HasOut old answer new
-taken_back saw old new (Ok (Some envelope)) is all has =
-    finds old new is.posted envelope all (record { group = ap (λ (p : PlaceState). p.group) is.others; number = ap (λ (p : PlaceState). p.number) is.others }) is.handed has
-taken_back saw old new (Ok None) is all has = of_kept old new is.0 all has
-taken_back saw old new (Err refusal) is all has = of_kept old new is.0 all has
+taken_back saw old new (Ok (Some envelope)) is all subscription has =
+    finds old new is.posted envelope all subscription (record { group = ap (λ (p : PlaceState). p.group) is.others; number = ap (λ (p : PlaceState). p.number) is.others }) is.handed has
+taken_back saw old new (Ok None) is all subscription has = of_kept old new is.0 all has
+taken_back saw old new (Err refusal) is all subscription has = of_kept old new is.0 all has
 
 pub settled : (old new : PlaceState) (envelope : Held) (fate : Fate) → SettlesHeld old (job_of envelope.stamp) fate new → SpendsOut HasOut old envelope new
 settled old new envelope fate is =

@@ -6,7 +6,7 @@ use Rattle.mqtt_packet.specs.declared.packet.Packet.{Packet}
 use Rattle.mqtt_packet.specs.declared.packet.Subscribe.{Subscribe}
 use Rattle.mqtt_packet.specs.declared.packet.Subscription.{Subscription}
 use Rattle.mqtt_packet.specs.declared.packet.Unsubscribe.{Unsubscribe}
-use Rattle.group_jobs.specs.Stamps.{Held}
+use Rattle.group_jobs.specs.Stamps.{Held, under}
 use Rattle.group_jobs.specs.declared.message.Message.{Message}
 use Rattle.member_window.specs.Contents.{Contents, after_put}
 use Rattle.conn_rules.specs.declared.terms.Terms.{Terms}
@@ -194,10 +194,10 @@ module _ {S P : Type 0} (call : S → SupplyCall P → S → Type 0) where
     pub calls : Plain given (place_in membership) (place_in membership') old new
     pub to_one : (handed calls.supply_calls ≡ []) ⊎ hand_outs.AsksOnlyFor (place_in membership) calls.supply_calls membership'
 
-  pub handed_out : (old new : S) (membership : Membership P) (window : Contents Held) (packets : List Packet) (membership' : Membership P) (window' : Contents Held)
-      → HandsOut call old membership window packets membership' window' new → HandsInTurn (fresh_messages packets) membership membership' old new
-  handed_out old new membership window packets membership' window' hands =
-      let out = hand_outs.handed_out call old new membership window packets membership' window' hands in
+  pub handed_out : (subscription : Option ℕ) (old new : S) (membership : Membership P) (window : Contents Held) (packets : List Packet) (membership' : Membership P) (window' : Contents Held)
+      → HandsOut call subscription old membership window packets membership' window' new → HandsInTurn (fresh_messages packets) membership membership' old new
+  handed_out subscription old new membership window packets membership' window' hands =
+      let out = hand_outs.handed_out call subscription old new membership window packets membership' window' hands in
       subst (λ given. HandsInTurn given membership membership' old new) (sym out.messages) (record { calls = plain out.given old new out.calls; to_one = out.to_one })
 
   refused : (old new : S) (place place' : P) → IsRefused call old place place' new → Plain [] (place ∷ []) (place' ∷ []) old new
@@ -209,37 +209,37 @@ module _ {S P : Type 0} (call : S → SupplyCall P → S → Type 0) where
   abbrev pub HandsSomething : List P → List P → S → S → Type 0
   HandsSomething before after old new = (given : List Message) × Plain given before after old new
 
-  some_taken : (envelopes : List Held) (old new : S) (place place' : P) (window window' : Contents Held) → TakesSome call old place window envelopes place' window' new
+  some_taken : (subscription : Option ℕ) (envelopes : List Held) (old new : S) (place place' : P) (window window' : Contents Held) → TakesSome call subscription old place window envelopes place' window' new
       → HandsSomething (place ∷ []) (place' ∷ []) old new
-  some_taken [] old new place place' window window' (same, inl none) = ([], still old new (ap (λ p. p ∷ []) none.0) none.1)
-  some_taken [] old new place place' window window' (same, inr stop) =
+  some_taken subscription [] old new place place' window window' (same, inl none) = ([], still old new (ap (λ p. p ∷ []) none.0) none.1)
+  some_taken subscription [] old new place place' window window' (same, inr stop) =
       ([], behind old old new (beside (place ∷ []) (one old old _ stop.1 refl refl refl refl)) (refused old new place place' stop.2))
-  some_taken (envelope ∷ envelopes) old new place place' window window' takes =
-      let later = some_taken envelopes takes.2 new takes.1 place' (after_put window takes.0 envelope) window' takes.7 in
+  some_taken subscription (envelope ∷ envelopes) old new place place' window window' takes =
+      let later = some_taken subscription envelopes takes.2 new takes.1 place' (after_put window takes.0 (under subscription envelope)) window' takes.7 in
       let asked = plain _ old takes.2 (hand_outs.asked_for call (Some envelope) old takes.2 place takes.1 takes.4).calls.calls in
       let first = after [] (envelope.message ∷ []) old old takes.2 (beside (place ∷ []) (one old old _ takes.3 refl refl refl refl)) asked in
       (envelope.message ∷ later.0, after (envelope.message ∷ []) later.0 old takes.2 new first later.1)
 
-  pub handed_some : (old new : S) (membership : Membership P) (window : Contents Held) (membership' : Membership P) (window' : Contents Held)
-      → HandsSome call old membership window membership' window' new → HandsSomething (place_in membership) (place_in membership') old new
-  handed_some old new membership window membership' window' (inl none) = ([], still old new (ap place_in none.2) none.3)
-  handed_some old new membership window membership' window' (inr some) =
-      let calls = some_taken some.3 old new some.0 some.1 some.2 window' some.7 in
+  pub handed_some : (subscription : Option ℕ) (old new : S) (membership : Membership P) (window : Contents Held) (membership' : Membership P) (window' : Contents Held)
+      → HandsSome call subscription old membership window membership' window' new → HandsSomething (place_in membership) (place_in membership') old new
+  handed_some subscription old new membership window membership' window' (inl none) = ([], still old new (ap place_in none.2) none.3)
+  handed_some subscription old new membership window membership' window' (inr some) =
+      let calls = some_taken subscription some.3 old new some.0 some.1 some.2 window' some.7 in
       subst (λ places. HandsSomething places (place_in membership') old new) (sym (ap place_in some.4)) (calls.0, becomes (ap place_in some.5) calls.1)
 
   -- shares are joined and left
   module _ (slot_of : P → ℕ) where
-    pub subscribed_as : (refused : Option ℕ) (old new : S) (terms : Terms) (membership : Membership P) (subscribe : Subscribe) (reply : Reply) (membership' : Membership P)
-        → SubscribesAs call slot_of refused terms old membership subscribe reply membership' new → Plain [] (place_in membership) (place_in membership') old new
-    subscribed_as refused old new terms membership subscribe reply membership' does =
-        plain [] old new (asides.subscribed_as call slot_of refused old new terms membership subscribe reply membership' does)
+    pub subscribed_as : (refused : Option ℕ) (old new : S) (terms : Terms) (membership : Membership P) (subscription : Option ℕ) (subscribe : Subscribe) (reply : Reply) (membership' : Membership P) (subscription' : Option ℕ)
+        → SubscribesAs call slot_of refused terms old membership subscription subscribe reply membership' subscription' new → Plain [] (place_in membership) (place_in membership') old new
+    subscribed_as refused old new terms membership subscription subscribe reply membership' subscription' does =
+        plain [] old new (asides.subscribed_as call slot_of refused old new terms membership subscription subscribe reply membership' subscription' does)
 
     pub unsubscribed_as : (refused : Option ℕ) (old new : S) (membership : Membership P) (unsubscribe : Unsubscribe) (reply : Reply) (membership' : Membership P)
         → UnsubscribesAs call slot_of refused old membership unsubscribe reply membership' new → Plain [] (place_in membership) (place_in membership') old new
     unsubscribed_as refused old new membership unsubscribe reply membership' does =
         plain [] old new (asides.unsubscribed_as call slot_of refused old new membership unsubscribe reply membership' does)
 
-    pub some_answered : (old new : S) (subscriptions : List Subscription) (identified : Bool) (terms : Terms) (membership membership' : Membership P)
-        → AnswersSome call slot_of identified terms old membership subscriptions membership' new → Plain [] (place_in membership) (place_in membership') old new
-    some_answered old new subscriptions identified terms membership membership' answers =
-        plain [] old new (asides.some_answered call slot_of old new subscriptions identified terms membership membership' answers)
+    pub some_answered : (old new : S) (subscriptions : List Subscription) (terms : Terms) (membership membership' : Membership P)
+        → AnswersSome call slot_of terms old membership subscriptions membership' new → Plain [] (place_in membership) (place_in membership') old new
+    some_answered old new subscriptions terms membership membership' answers =
+        plain [] old new (asides.some_answered call slot_of old new subscriptions terms membership membership' answers)

@@ -32,26 +32,26 @@ module _ {S P : Type 0} (call : S → SupplyCall P → S → Type 0) where
   none_fresh old new place place' window window' (same, inr (inr stop)) =
       inr (inr (subst (λ s. call s (MayTake place' false) s) (sym stop.2) (subst (λ p. call old (MayTake p false) old) (sym stop.1) stop.3)))
 
-  all_fresh : (sent : List Packet) (old new : S) (place place' : P) (window window' : Contents Held) → SendsFresh call old place window sent place' window' new
+  all_fresh : (subscription : Option ℕ) (sent : List Packet) (old new : S) (place place' : P) (window window' : Contents Held) → SendsFresh call subscription old place window sent place' window' new
       → Waits window → Waits window' × IsServed call new (Member place') window'
-  all_fresh [] old new place place' window window' sends waits =
+  all_fresh subscription [] old new place place' window window' sends waits =
       (subst Waits (sym sends.0) waits, none_fresh old new place place' window window' sends)
-  all_fresh (packet ∷ packets) old new place place' window window' sends waits =
+  all_fresh subscription (packet ∷ packets) old new place place' window window' sends waits =
       let one = sends.3 in
-      all_fresh packets sends.2 new sends.0 place' sends.1 window' sends.4 (subst Waits (sym one.put) (λ quota. one.room.1))
+      all_fresh subscription packets sends.2 new sends.0 place' sends.1 window' sends.4 (subst Waits (sym one.put) (λ quota. one.room.1))
 
   leaves : (old new : S) (place : P) (window window' : Contents Held) (membership : Membership P) → LeavesWith call old place window membership new → IsServed call new membership window'
   leaves old new place window window' membership (inl gone) = subst (λ m. IsServed call new m window') (sym gone.1) tt
   leaves old new place window window' membership (inr stays) = subst (λ m. IsServed call new m window') (sym stays.1) tt
 
-  fresh : (membership : Membership P) (old new : S) (window : Contents Held) (sent : List Packet) (membership' : Membership P) (window' : Contents Held)
-      → HandsFresh call old membership window sent membership' window' new → Waits window → Waits window' × IsServed call new membership' window'
-  fresh NotMember old new window sent membership' window' hands waits =
+  fresh : (subscription : Option ℕ) (membership : Membership P) (old new : S) (window : Contents Held) (sent : List Packet) (membership' : Membership P) (window' : Contents Held)
+      → HandsFresh call subscription old membership window sent membership' window' new → Waits window → Waits window' × IsServed call new membership' window'
+  fresh subscription NotMember old new window sent membership' window' hands waits =
       (subst Waits (sym hands.2) waits, subst (λ m. IsServed call new m window') (sym hands.1) tt)
-  fresh (Member place) old new window sent membership' window' hands waits =
-      let all = all_fresh sent old new place hands.0 window window' hands.2 waits in
+  fresh subscription (Member place) old new window sent membership' window' hands waits =
+      let all = all_fresh subscription sent old new place hands.0 window window' hands.2 waits in
       (all.0, subst (λ m. IsServed call new m window') (sym hands.1) all.1)
-  fresh (Leaving place) old new window sent membership' window' hands waits =
+  fresh subscription (Leaving place) old new window sent membership' window' hands waits =
       (subst Waits (sym hands.1) waits, leaves old new place window window' membership' hands.2)
 
   -- nothing is left, where the connection has a session
@@ -67,6 +67,6 @@ module _ {S P : Type 0} (call : S → SupplyCall P → S → Type 0) where
     handed (Waiting request ticks) old new sent phase hands = subst (λ s. NoneLeft s new) (sym hands.1) tt
     handed (Connected connected) old new sent phase hands =
         let out = hands.2 in
-        let all = fresh connected.session.membership old new out.between out.fresh hands.0 hands.1 out.sent_fresh (all_again out.again connected.session.window out.between out.sent_again) in
+        let all = fresh connected.session.subscription connected.session.membership old new out.between out.fresh hands.0 hands.1 out.sent_fresh (all_again out.again connected.session.window out.between out.sent_again) in
         subst (λ s. NoneLeft s new) (sym hands.3) (record { again = all.0; fresh = all.1 })
     handed Ended old new sent phase hands = subst (λ s. NoneLeft s new) (sym hands.1) tt

@@ -179,7 +179,7 @@ module _ {S P : Type 0} (call : S → SupplyCall P → S → Type 0) where
         plain [] old new number (Connected connected) _ (
         behind call old before new first (
         behind call before after new
-        (some_answered call slot_of before after subscribe.subscriptions (is_some subscribe.properties.subscription_identifier) connected.terms connected.session.membership fails.0 fails.1)
+        (some_answered call slot_of before after subscribe.subscriptions connected.terms connected.session.membership fails.0 fails.1)
         (later connected' _ after new fails.2 last)))
     failed_to_answer (packets.Unsubscribe unsubscribe) old before after new number now connected connected' first fails last =
         plain [] old new number (Connected connected) _ (behind call old before new first (behind call before after new (still call before after refl fails.1) (later connected' _ after new fails.0 last)))
@@ -228,7 +228,7 @@ module _ {S P : Type 0} (call : S → SupplyCall P → S → Type 0) where
     handed_less (Unconnected opened) old new now hands = absurd hands
     handed_less (Waiting request ticks) old new now hands = absurd hands
     handed_less (Connected connected) old new now hands =
-        let some = handed_some call old hands.2 connected.session.membership connected.session.window hands.0 hands.1 hands.3 in
+        let some = handed_some call connected.session.subscription old hands.2 connected.session.membership connected.session.window hands.0 hands.1 hands.3 in
         (some.0 ++ [], after call some.0 [] old hands.2 new some.1 (parted call hands.2 new (after_hand_out connected hands.0 hands.1).session now hands.4))
     handed_less Ended old new now hands = absurd hands
 

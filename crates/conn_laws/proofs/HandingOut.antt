@@ -4,7 +4,7 @@ use Rattle.std.specs.List.{AllByRecursion}
 use Rattle.std.proofs.lemmas.List.Elements.{filter_map-append}
 use Rattle.mqtt_packet.specs.declared.packet.Packet.{Packet}
 use Rattle.group_jobs.specs.declared.message.Message.{Message}
-use Rattle.group_jobs.specs.Stamps.{Held}
+use Rattle.group_jobs.specs.Stamps.{Held, under}
 use Rattle.member_window.specs.Contents.{Contents, after_resend}
 use Rattle.member_window.specs.Calls.{Call, Put, NextResend}
 use Rattle.member_window.specs.Runs.{transcript_of}
@@ -45,7 +45,7 @@ again_before (packet ∷ packets) more fresh old mid new again rest =
       calls = NextResend (Some again.0) ∷ others.calls;
       made = (tt, (after_resend old (Some again.0), (again.1, refl), others.made));
       within = (tt, others.within);
-      publishes = ap (λ p. publishes_in (p ∷ (packets ++ more))) again.2 ∙ ap (λ ps. job true again.0.1.message again.0.0 ∷ ps) others.publishes;
+      publishes = ap (λ p. publishes_in (p ∷ (packets ++ more))) again.2 ∙ ap (λ ps. job true again.0.1.message again.0.1.subscription again.0.0 ∷ ps) others.publishes;
       fresh_are = others.fresh_are;
       none_acked = others.none_acked;
     }
@@ -97,12 +97,14 @@ module _ {S P : Type 0} (call : S → SupplyCall P → S → Type 0) where
       }
   asked_for found old new place place' (inr queued) = asked_later found old queued.1 new place queued.0 place' queued.2 queued.3
 
+-- to a session that has this Subscription Identifier, or none
+module _ {S P : Type 0} (call : S → SupplyCall P → S → Type 0) (subscription : Option ℕ) where
   -- the calls of a hand-out, to a session with these places and this window, which has this membership then and that window
   pub record Handed (old : S) (places : List P) (window : Contents Held) (sent : List Packet) (membership' : Membership P) (window' : Contents Held) (new : S) : Type 0 where
     pub given : List (P × Held)
     pub calls : Aside call given places (place_in membership') old new
     pub to_one : (handed calls.supply_calls ≡ []) ⊎ AsksOnlyFor places calls.supply_calls membership'
-    pub sends : Sends window sent (map (λ (h : P × Held). h.1) given) window'
+    pub sends : Sends window sent (map (λ (h : P × Held). under subscription h.1) given) window'
     pub own : (of : P → ℕ) → KeepsNumbers call of → AllByRecursion (λ (h : P × Held). HasOneAs of membership' h.0) given
     pub messages : fresh_messages sent ≡ messages_of given
 
@@ -116,7 +118,7 @@ module _ {S P : Type 0} (call : S → SupplyCall P → S → Type 0) where
   pub record HandedTo (old : S) (place : P) (window : Contents Held) (sent : List Packet) (place' : P) (membership' : Membership P) (window' : Contents Held) (new : S) : Type 0 where
     pub given : List (P × Held)
     pub calls : InTurn call given (place ∷ []) (place' ∷ []) old new
-    pub sends : Sends window sent (map (λ (h : P × Held). h.1) given) window'
+    pub sends : Sends window sent (map (λ (h : P × Held). under subscription h.1) given) window'
     pub own : (of : P → ℕ) → KeepsNumbers call of → AllByRecursion (λ (h : P × Held). HasOneAs of membership' h.0) given
     pub messages : fresh_messages sent ≡ messages_of given
     pub stays : (of : P → ℕ) → KeepsNumbers call of → of place' ≡ of place
@@ -131,29 +133,29 @@ module _ {S P : Type 0} (call : S → SupplyCall P → S → Type 0) where
   sent_none old new place place' window window' membership' (same, inl full) =
       none_to old new place place' window window' membership' same (still call old new (ap (λ p. p ∷ []) full.1) full.2) (λ of keeps. ap of full.1)
   sent_none old new place place' window window' membership' (same, inr (inl none)) =
-      let asked = asked_for None old new place place' none.2 in
+      let asked = asked_for call None old new place place' none.2 in
       none_to old new place place' window window' membership' same (behind call old old new (one call (place ∷ []) old old _ none.1 tt tt refl refl refl refl) asked.calls) (λ of keeps. (asked.stays of keeps).1)
   sent_none old new place place' window window' membership' (same, inr (inr stop)) =
       none_to old new place place' window window' membership' same
       (behind call old old new (one call (place ∷ []) old old _ stop.3 tt tt refl refl refl refl) (still call old new (ap (λ p. p ∷ []) stop.1) stop.2)) (λ of keeps. ap of stop.1)
 
   sent_fresh : (packets : List Packet) (old new : S) (place place' : P) (window window' : Contents Held) (membership' : Membership P) → membership' ≡ Member place'
-      → SendsFresh call old place window packets place' window' new → HandedTo old place window packets place' membership' window' new
+      → SendsFresh call subscription old place window packets place' window' new → HandedTo old place window packets place' membership' window' new
   sent_fresh [] old new place place' window window' membership' is sends = sent_none old new place place' window window' membership' sends
   sent_fresh (packet ∷ packets) old new place place' window window' membership' is sends =
       let first = sends.3 in
-      let asked = asked_for (Some first.envelope) old sends.2 place sends.0 first.asked in
+      let asked = asked_for call (Some first.envelope) old sends.2 place sends.0 first.asked in
       let one_call = after call [] ((asked.from, first.envelope) ∷ []) old old sends.2 (one call (place ∷ []) old old _ first.allowed tt tt refl refl refl refl) asked.calls in
       let rest = sent_fresh packets sends.2 new sends.0 place' sends.1 window' membership' is sends.4 in
       record {
         given = (asked.from, first.envelope) ∷ rest.given;
         calls = after call ((asked.from, first.envelope) ∷ []) rest.given old sends.2 new one_call rest.calls;
         sends = record {
-          calls = Put first.envelope (Ok first.identifier) ∷ rest.sends.calls;
+          calls = Put (under subscription first.envelope) (Ok first.identifier) ∷ rest.sends.calls;
           made = (tt, (sends.1, (first.room, first.free, first.put), rest.sends.made));
           within = (tt, rest.sends.within);
-          publishes = ap (λ p. publishes_in (p ∷ packets)) first.sent ∙ ap (λ ps. job false first.envelope.message first.identifier ∷ ps) rest.sends.publishes;
-          fresh_are = ap (λ items. first.envelope ∷ items) rest.sends.fresh_are;
+          publishes = ap (λ p. publishes_in (p ∷ packets)) first.sent ∙ ap (λ ps. job false first.envelope.message subscription first.identifier ∷ ps) rest.sends.publishes;
+          fresh_are = ap (λ items. under subscription first.envelope ∷ items) rest.sends.fresh_are;
           none_acked = rest.sends.none_acked;
         };
         own = λ of keeps. ((place', is, rest.stays of keeps ∙ (asked.stays of keeps).1 ∙ sym (asked.stays of keeps).0), rest.own of keeps);
@@ -187,7 +189,7 @@ module _ {S P : Type 0} (call : S → SupplyCall P → S → Type 0) where
   left_with old new place window membership (inr stays) = asides.still call old new (ap place_in stays.1) stays.2
 
   handed_fresh : (membership : Membership P) (old new : S) (window : Contents Held) (packets : List Packet) (membership' : Membership P) (window' : Contents Held)
-      → HandsFresh call old membership window packets membership' window' new → Handed old (place_in membership) window packets membership' window' new
+      → HandsFresh call subscription old membership window packets membership' window' new → Handed old (place_in membership) window packets membership' window' new
   handed_fresh NotMember old new window packets membership' window' hands = hands_none old new window packets membership' window' hands.0 hands.2 (asides.still call old new (ap place_in hands.1) hands.3)
   handed_fresh (Member place) old new window packets membership' window' hands =
       to_member old new place hands.0 window window' packets membership' hands.1 (sent_fresh packets old new place hands.0 window window' membership' hands.1 hands.2)
@@ -195,7 +197,7 @@ module _ {S P : Type 0} (call : S → SupplyCall P → S → Type 0) where
       hands_none old new window packets membership' window' hands.0 hands.1 (left_with old new place window membership' hands.2)
 
   pub handed_out : (old new : S) (membership : Membership P) (window : Contents Held) (packets : List Packet) (membership' : Membership P) (window' : Contents Held)
-      → HandsOut call old membership window packets membership' window' new → Handed old (place_in membership) window packets membership' window' new
+      → HandsOut call subscription old membership window packets membership' window' new → Handed old (place_in membership) window packets membership' window' new
   handed_out old new membership window packets membership' window' hands =
       let fresh = handed_fresh membership old new hands.between hands.fresh membership' window' hands.sent_fresh in
       subst (λ sent. Handed old (place_in membership) window sent membership' window' new) (sym hands.both)

@@ -102,7 +102,7 @@ module _ {S P : Type 0} (call : S → SupplyCall P → S → Type 0) (slot_of : 
       → Within (Connected connected) → Within (Connected connected')
   answered (packets.Publish publish) old new number connected connected' reply answers within = same connected connected' answers.1 within
   answered (packets.Puback puback) old new number connected connected' reply answers within = subst (λ l. Within (Connected l)) (sym answers.2) within
-  answered (packets.Subscribe subscribe) old new number connected connected' reply answers within = subst (λ l. Within (Connected l)) (sym answers.2) within
+  answered (packets.Subscribe subscribe) old new number connected connected' reply answers within = subst (λ l. Within (Connected l)) (sym answers.3) within
   answered (packets.Unsubscribe unsubscribe) old new number connected connected' reply answers within = subst (λ l. Within (Connected l)) (sym answers.2) within
   answered packets.Pingreq old new number connected connected' reply answers within = same connected connected' answers.0 within
   answered (packets.Disconnect disconnect) old new number connected connected' reply answers within = disconnects disconnect.properties.session_expiry_interval connected connected' reply answers.0 within

@@ -23,7 +23,7 @@ use Rattle.conn_engine.specs.declared.phase.ConnPhase.TheVariants.{Unconnected, 
 use Rattle.conn_laws.specs.Asking.{OneAnswer}
 use Rattle.conn_engine.specs.Ending.{down}
 use Rattle.conn_engine.specs.Connecting.{Attaches}
-use Rattle.conn_engine.specs.Answering.{Answers, Disconnects, DisconnectsIf, with_session, joining}
+use Rattle.conn_engine.specs.Answering.{Answers, Disconnects, DisconnectsIf, with_session, joining, subscribing}
 use Rattle.conn_engine.specs.Step.{request_of, hearing, after_hand_out, IsClosed, IsRefusedIf, WaitsForConnect, IsParted, AnswersFirst, Concludes, AnswersPacket, IsHeard, AnswersTick, IsKicked, AnswersUnlessKicked, Reacts, Hands, Steps}
 use Rattle.conn_laws.proofs.OneCall as calls
 use Rattle.conn_laws.proofs.OneEnding as endings
@@ -71,8 +71,8 @@ module _ {S P : Type 0} (call : S → SupplyCall P → S → Type 0) (AreAlike :
       let one = messages.acknowledged call AreAlike answers a a' b b' connected.session h.0 k.0 puback.packet_identifier puback.reason_code alike h.1 k.1 in
       (h.2 ∙ ap (with_session connected) one.0 ∙ sym k.2, h.3 ∙ sym k.3, one.1)
   answered (packets.Subscribe subscribe) a a' b b' number connected m n r u alike h k =
-      let one = shares.subscribed call AreAlike answers slot_of a a' b b' connected.terms connected.session.membership subscribe r u h.0 k.0 alike h.1 k.1 in
-      (h.2 ∙ ap (joining connected) one.1 ∙ sym k.2, one.0, one.2)
+      let one = shares.subscribed call AreAlike answers slot_of a a' b b' connected.terms connected.session.membership connected.session.subscription subscribe r u h.0 k.0 h.1 k.1 alike h.2 k.2 in
+      (h.3 ∙ (λ i. subscribing connected (one.1 i) (one.2 i)) ∙ sym k.3, one.0, one.3)
   answered (packets.Unsubscribe unsubscribe) a a' b b' number connected m n r u alike h k =
       let one = shares.unsubscribed call AreAlike answers slot_of a a' b b' connected.session.membership unsubscribe r u h.0 k.0 alike h.1 k.1 in
       (h.2 ∙ ap (joining connected) one.1 ∙ sym k.2, one.0, one.2)
@@ -167,7 +167,7 @@ module _ {S P : Type 0} (call : S → SupplyCall P → S → Type 0) (AreAlike :
   handed (Unconnected opened) a a' b b' xs ys s t alike h k = (h.0 ∙ sym k.0, h.1 ∙ sym k.1, calls.still call AreAlike answers a a' b b' alike h.2 k.2)
   handed (Waiting request ticks) a a' b b' xs ys s t alike h k = (h.0 ∙ sym k.0, h.1 ∙ sym k.1, calls.still call AreAlike answers a a' b b' alike h.2 k.2)
   handed (Connected connected) a a' b b' xs ys s t alike h k =
-      let one = hand_outs.handed_out call AreAlike answers connected.session.membership a a' b b' connected.session.window h.1 k.1 xs ys h.0 k.0 alike h.2 k.2 in
+      let one = hand_outs.handed_out call AreAlike answers connected.session.subscription connected.session.membership a a' b b' connected.session.window h.1 k.1 xs ys h.0 k.0 alike h.2 k.2 in
       (one.0, h.3 ∙ (λ i. Connected (after_hand_out connected (one.1 i) (one.2 i))) ∙ sym k.3, one.3)
   handed Ended a a' b b' xs ys s t alike h k = (h.0 ∙ sym k.0, h.1 ∙ sym k.1, calls.still call AreAlike answers a a' b b' alike h.2 k.2)
 

@@ -2,7 +2,7 @@
 use Rattle.std.proofs.Common.{◌≡◌, ℕ, ◌<◌, ◌≤◌, Bool, true, false, List, [], ◌∷◌, ◌++◌, length, length-append, Option, Some, None, Result, Ok, Err, refl, sym, subst, arith, IsSomeAnd}
 use Rattle.mqtt_packet.specs.declared.packet.Packet.{Packet}
 use Rattle.mqtt_packet.specs.declared.packet.Packet.TheVariants as packets
-use Rattle.group_jobs.specs.Stamps.{Held}
+use Rattle.group_jobs.specs.Stamps.{Held, under}
 use Rattle.member_window.specs.Contents.{Contents, HasQuota, after_put, after_resend}
 use Rattle.member_window.specs.Calls.{Acks}
 use Rattle.member_window.proofs.Lists.{length-entries_without}
@@ -64,19 +64,19 @@ same : {P : Type 0} (connected connected' : ConnectedClient P) → connected' �
 same connected connected' is keeps = subst (λ l. IsWithinQuota (Connected l)) (sym is) keeps
 
 module _ {S P : Type 0} (call : S → SupplyCall P → S → Type 0) (slot_of : P → ℕ) where
-  fresh : (sent : List Packet) (quota : ℕ) (old new : S) (place place' : P) (window window' : Contents Held) → SendsFresh call old place window sent place' window' new
+  fresh : (subscription : Option ℕ) (sent : List Packet) (quota : ℕ) (old new : S) (place place' : P) (window window' : Contents Held) → SendsFresh call subscription old place window sent place' window' new
       → KeepsQuota quota window → KeepsQuota quota window'
-  fresh [] quota old new place place' window window' sends keeps = subst (KeepsQuota quota) (sym sends.0) keeps
-  fresh (packet ∷ packets) quota old new place place' window window' sends keeps =
+  fresh subscription [] quota old new place place' window window' sends keeps = subst (KeepsQuota quota) (sym sends.0) keeps
+  fresh subscription (packet ∷ packets) quota old new place place' window window' sends keeps =
       let one = sends.3 in
-      fresh packets quota sends.2 new sends.0 place' sends.1 window' sends.4
-      (subst (KeepsQuota quota) (sym one.put) (put quota window one.identifier one.envelope keeps one.room.0))
+      fresh subscription packets quota sends.2 new sends.0 place' sends.1 window' sends.4
+      (subst (KeepsQuota quota) (sym one.put) (put quota window one.identifier (under subscription one.envelope) keeps one.room.0))
 
-  handed_fresh : (membership : Membership P) (quota : ℕ) (old new : S) (window window' : Contents Held) (sent : List Packet) (membership' : Membership P)
-      → HandsFresh call old membership window sent membership' window' new → KeepsQuota quota window → KeepsQuota quota window'
-  handed_fresh NotMember quota old new window window' sent membership' hands keeps = subst (KeepsQuota quota) (sym hands.2) keeps
-  handed_fresh (Member place) quota old new window window' sent membership' hands keeps = fresh sent quota old new place hands.0 window window' hands.2 keeps
-  handed_fresh (Leaving place) quota old new window window' sent membership' hands keeps = subst (KeepsQuota quota) (sym hands.1) keeps
+  handed_fresh : (subscription : Option ℕ) (membership : Membership P) (quota : ℕ) (old new : S) (window window' : Contents Held) (sent : List Packet) (membership' : Membership P)
+      → HandsFresh call subscription old membership window sent membership' window' new → KeepsQuota quota window → KeepsQuota quota window'
+  handed_fresh subscription NotMember quota old new window window' sent membership' hands keeps = subst (KeepsQuota quota) (sym hands.2) keeps
+  handed_fresh subscription (Member place) quota old new window window' sent membership' hands keeps = fresh subscription sent quota old new place hands.0 window window' hands.2 keeps
+  handed_fresh subscription (Leaving place) quota old new window window' sent membership' hands keeps = subst (KeepsQuota quota) (sym hands.1) keeps
 
   handed : (phase phase' : ConnPhase P) (old new : S) (sent : List Packet) → Hands call slot_of old phase sent phase' new → IsWithinQuota phase → IsWithinQuota phase'
   handed (Unconnected opened) phase' old new sent hands within = subst IsWithinQuota (sym hands.1) tt
@@ -84,7 +84,7 @@ module _ {S P : Type 0} (call : S → SupplyCall P → S → Type 0) (slot_of : 
   handed (Connected connected) phase' old new sent hands within =
       let out = hands.2 in
       subst IsWithinQuota (sym hands.3)
-      (handed_fresh connected.session.membership (quota_of connected.terms) old new out.between hands.1 out.fresh hands.0 out.sent_fresh
+      (handed_fresh connected.session.subscription connected.session.membership (quota_of connected.terms) old new out.between hands.1 out.fresh hands.0 out.sent_fresh
       (again out.again (quota_of connected.terms) connected.session.window out.between out.sent_again within))
   handed Ended phase' old new sent hands within = ended phase' hands.1
 
@@ -148,7 +148,7 @@ module _ {S P : Type 0} (call : S → SupplyCall P → S → Type 0) (slot_of : 
       subst (λ l. IsWithinQuota (Connected l)) (sym answers.2)
       (acknowledged connected.session.membership (quota_of connected.terms) old new connected.session.window answers.0.window puback.packet_identifier puback.reason_code answers.0.membership
       answers.1.settles within)
-  answered (packets.Subscribe subscribe) old new number connected connected' reply answers within = subst (λ l. IsWithinQuota (Connected l)) (sym answers.2) within
+  answered (packets.Subscribe subscribe) old new number connected connected' reply answers within = subst (λ l. IsWithinQuota (Connected l)) (sym answers.3) within
   answered (packets.Unsubscribe unsubscribe) old new number connected connected' reply answers within = subst (λ l. IsWithinQuota (Connected l)) (sym answers.2) within
   answered packets.Pingreq old new number connected connected' reply answers within = same connected connected' answers.0 within
   answered (packets.Disconnect disconnect) old new number connected connected' reply answers within = disconnects disconnect.properties.session_expiry_interval connected connected' reply answers.0 within

@@ -204,8 +204,8 @@ module _ {S P : Type 0} (call : S → SupplyCall P → S → Type 0) where
         (sym is.2) is.1.settles))
     answered (packets.Subscribe subscribe) old new number now connected after reply is =
         inl (
-          kept old new connected.session after _ is.2 refl refl
-              (apart call old new (asides.subscribed_as call slot_of (subscribe_refusal subscribe) old new connected.terms connected.session.membership subscribe reply is.0 is.1)),
+          kept old new connected.session after _ is.3 refl refl
+              (apart call old new (asides.subscribed_as call slot_of (subscribe_refusal subscribe) old new connected.terms connected.session.membership connected.session.subscription subscribe reply is.0 is.1 is.2)),
           λ e f c. c,
         )
     answered (packets.Unsubscribe unsubscribe) old new number now connected after reply is =

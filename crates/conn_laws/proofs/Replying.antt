@@ -116,10 +116,10 @@ module _ {S P : Type 0} (call : S → SupplyCall P → S → Type 0) (slot_of : 
   published (answers.Refuse identifier code) old new number publish reply is = told reply _ is.0 refl
   published (answers.Offer identifier) old new number publish reply is = told reply _ is.replied refl
 
-  subscribed : (refusal : Option ℕ) (terms : Terms) (old new : S) (membership membership' : Membership P) (subscribe : Subscribe) (reply : Reply)
-      → SubscribesAs call slot_of refusal terms old membership subscribe reply membership' new → BringsNone reply
-  subscribed (Some code) terms old new membership membership' subscribe reply is = told reply _ is.0 refl
-  subscribed None terms old new membership membership' subscribe reply is = told reply _ is.1 refl
+  subscribed : (refusal : Option ℕ) (terms : Terms) (old new : S) (membership membership' : Membership P) (subscription subscription' : Option ℕ) (subscribe : Subscribe) (reply : Reply)
+      → SubscribesAs call slot_of refusal terms old membership subscription subscribe reply membership' subscription' new → BringsNone reply
+  subscribed (Some code) terms old new membership membership' subscription subscription' subscribe reply is = told reply _ is.0 refl
+  subscribed None terms old new membership membership' subscription subscription' subscribe reply is = told reply _ is.1 refl
 
   unsubscribed : (refusal : Option ℕ) (old new : S) (membership membership' : Membership P) (unsubscribe : Unsubscribe) (reply : Reply)
       → UnsubscribesAs call slot_of refusal old membership unsubscribe reply membership' new → BringsNone reply
@@ -130,7 +130,7 @@ module _ {S P : Type 0} (call : S → SupplyCall P → S → Type 0) (slot_of : 
   answered (packets.Publish publish) old new number connected after reply is = published (publish_answer publish) old new number publish reply is.0
   answered (packets.Puback puback) old new number connected after reply is = told reply _ is.3 refl
   answered (packets.Subscribe subscribe) old new number connected after reply is =
-      subscribed (subscribe_refusal subscribe) connected.terms old new connected.session.membership is.0 subscribe reply is.1
+      subscribed (subscribe_refusal subscribe) connected.terms old new connected.session.membership is.0 connected.session.subscription is.1 subscribe reply is.2
   answered (packets.Unsubscribe unsubscribe) old new number connected after reply is =
       unsubscribed (unsubscribe_refusal unsubscribe) old new connected.session.membership is.0 unsubscribe reply is.1
   answered packets.Pingreq old new number connected after reply is = told reply _ is.1 refl

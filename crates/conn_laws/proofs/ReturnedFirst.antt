@@ -86,22 +86,22 @@ module _ {S P : Type 0} (call : S → SupplyCall P → S → Type 0) where
   sent_none old new place place' window window' (same, inr (inl asked)) = behind old old new (one old old (MayTake place true) asked.1 tt) (asked_for None old new place place' asked.2)
   sent_none old new place place' window window' (same, inr (inr stop)) = behind old old new (one old old (MayTake place false) stop.3 tt) (none old new stop.2)
 
-  sent_fresh : (packets : List Packet) (old new : S) (place place' : P) (window window' : Contents Held) → SendsFresh call old place window packets place' window' new
+  sent_fresh : (subscription : Option ℕ) (packets : List Packet) (old new : S) (place place' : P) (window window' : Contents Held) → SendsFresh call subscription old place window packets place' window' new
       → CallsReturnedFirst call old new
-  sent_fresh [] old new place place' window window' sends = sent_none old new place place' window window' sends
-  sent_fresh (packet ∷ packets) old new place place' window window' sends =
+  sent_fresh subscription [] old new place place' window window' sends = sent_none old new place place' window window' sends
+  sent_fresh subscription (packet ∷ packets) old new place place' window window' sends =
       let first = behind old old sends.2 (one old old (MayTake place true) sends.3.allowed tt) (asked_for (Some sends.3.envelope) old sends.2 place sends.0 sends.3.asked) in
-      behind old sends.2 new first (sent_fresh packets sends.2 new sends.0 place' sends.1 window' sends.4)
+      behind old sends.2 new first (sent_fresh subscription packets sends.2 new sends.0 place' sends.1 window' sends.4)
 
   left_with : (old new : S) (place : P) (window : Contents Held) (membership : Membership P) → LeavesWith call old place window membership new → CallsReturnedFirst call old new
   left_with old new place window membership (inl gone) = one old new (TakePlace place) gone.2 tt
   left_with old new place window membership (inr stays) = none old new stays.2
 
-  handed_fresh : (membership : Membership P) (old new : S) (window : Contents Held) (packets : List Packet) (membership' : Membership P) (window' : Contents Held)
-      → HandsFresh call old membership window packets membership' window' new → CallsReturnedFirst call old new
-  handed_fresh NotMember old new window packets membership' window' hands = none old new hands.3
-  handed_fresh (Member place) old new window packets membership' window' hands = sent_fresh packets old new place hands.0 window window' hands.2
-  handed_fresh (Leaving place) old new window packets membership' window' hands = left_with old new place window membership' hands.2
+  handed_fresh : (subscription : Option ℕ) (membership : Membership P) (old new : S) (window : Contents Held) (packets : List Packet) (membership' : Membership P) (window' : Contents Held)
+      → HandsFresh call subscription old membership window packets membership' window' new → CallsReturnedFirst call old new
+  handed_fresh subscription NotMember old new window packets membership' window' hands = none old new hands.3
+  handed_fresh subscription (Member place) old new window packets membership' window' hands = sent_fresh subscription packets old new place hands.0 window window' hands.2
+  handed_fresh subscription (Leaving place) old new window packets membership' window' hands = left_with old new place window membership' hands.2
 
   -- calls that hand nothing out
   pub plain : {before after : List P} (old new : S) → Plain call [] before after old new → CallsReturnedFirst call old new
@@ -118,7 +118,7 @@ module _ {S P : Type 0} (call : S → SupplyCall P → S → Type 0) where
     hands : (between : ConnPhase P) (old new : S) (sent : List Packet) (phase : ConnPhase P) → Hands call slot_of old between sent phase new → CallsReturnedFirst call old new
     hands (Unconnected opened) old new sent phase is = none old new is.2
     hands (Waiting request ticks) old new sent phase is = none old new is.2
-    hands (Connected connected) old new sent phase is = handed_fresh connected.session.membership old new is.2.between is.2.fresh is.0 is.1 is.2.sent_fresh
+    hands (Connected connected) old new sent phase is = handed_fresh connected.session.subscription connected.session.membership old new is.2.between is.2.fresh is.0 is.1 is.2.sent_fresh
     hands Ended old new sent phase is = none old new is.2
 
     pub stepped : (old new : S) (number now : ℕ) (phase phase' : ConnPhase P) (input : Input) (packets : List Packet) (next : Then)

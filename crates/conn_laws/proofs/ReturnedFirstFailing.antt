@@ -4,7 +4,7 @@ use Rattle.mqtt_packet.specs.declared.packet.Packet.{Packet}
 use Rattle.mqtt_packet.specs.declared.packet.Packet.TheVariants as packets
 use Rattle.mqtt_packet.specs.declared.packet.Publish.{Publish}
 use Rattle.group_jobs.specs.declared.message.Message.{Message}
-use Rattle.group_jobs.specs.Stamps.{Held}
+use Rattle.group_jobs.specs.Stamps.{Held, under}
 use Rattle.member_window.specs.Contents.{Contents, after_put}
 use Rattle.session_desk.specs.declared.session.Membership.{Membership}
 use Rattle.conn_rules.specs.Publishing.{message_of}
@@ -44,19 +44,19 @@ module _ {S P : Type 0} (call : S → SupplyCall P → S → Type 0) where
   refused old new place place' (inl at_once) = one call old new _ at_once.1 tt
   refused old new place place' (inr later) = behind call old later.2 new (one call old later.2 _ later.3 tt) (one call later.2 new _ later.4 tt)
 
-  taken : (envelopes : List Held) (old new : S) (place place' : P) (window window' : Contents Held) → TakesSome call old place window envelopes place' window' new
+  taken : (subscription : Option ℕ) (envelopes : List Held) (old new : S) (place place' : P) (window window' : Contents Held) → TakesSome call subscription old place window envelopes place' window' new
       → CallsReturnedFirst call old new
-  taken [] old new place place' window window' (same, inl nothing) = none call old new nothing.1
-  taken [] old new place place' window window' (same, inr stop) = behind call old old new (one call old old _ stop.1 tt) (refused old new place place' stop.2)
-  taken (envelope ∷ envelopes) old new place place' window window' takes =
+  taken subscription [] old new place place' window window' (same, inl nothing) = none call old new nothing.1
+  taken subscription [] old new place place' window window' (same, inr stop) = behind call old old new (one call old old _ stop.1 tt) (refused old new place place' stop.2)
+  taken subscription (envelope ∷ envelopes) old new place place' window window' takes =
       behind call old old new (one call old old _ takes.3 tt) (
       behind call old takes.2 new (asked_for call (Some envelope) old takes.2 place takes.1 takes.4)
-      (taken envelopes takes.2 new takes.1 place' (after_put window takes.0 envelope) window' takes.7))
+      (taken subscription envelopes takes.2 new takes.1 place' (after_put window takes.0 (under subscription envelope)) window' takes.7))
 
-  handed_some : (old new : S) (membership : Membership P) (window : Contents Held) (membership' : Membership P) (window' : Contents Held)
-      → HandsSome call old membership window membership' window' new → CallsReturnedFirst call old new
-  handed_some old new membership window membership' window' (inl nothing) = none call old new nothing.3
-  handed_some old new membership window membership' window' (inr some) = taken some.3 old new some.0 some.1 some.2 window' some.7
+  handed_some : (subscription : Option ℕ) (old new : S) (membership : Membership P) (window : Contents Held) (membership' : Membership P) (window' : Contents Held)
+      → HandsSome call subscription old membership window membership' window' new → CallsReturnedFirst call old new
+  handed_some subscription old new membership window membership' window' (inl nothing) = none call old new nothing.3
+  handed_some subscription old new membership window membership' window' (inr some) = taken subscription some.3 old new some.0 some.1 some.2 window' some.7
 
   module _ (slot_of : P → ℕ) where
     given_up : (phase : ConnPhase P) (old new : S) (number now : ℕ) → GivesUp call slot_of old number phase now new → CallsReturnedFirst call old new
@@ -83,7 +83,7 @@ module _ {S P : Type 0} (call : S → SupplyCall P → S → Type 0) where
     failed_to_answer (packets.Publish publish) old new number now connected connected' fails = cut_short old new number publish fails.0
     failed_to_answer (packets.Subscribe subscribe) old new number now connected connected' fails =
         plain call old new
-        (some_answered call slot_of old new subscribe.subscriptions (is_some subscribe.properties.subscription_identifier) connected.terms connected.session.membership fails.0 fails.1)
+        (some_answered call slot_of old new subscribe.subscriptions connected.terms connected.session.membership fails.0 fails.1)
     failed_to_answer (packets.Unsubscribe unsubscribe) old new number now connected connected' fails = none call old new fails.1
     failed_to_answer other old new number now connected connected' fails = absurd fails
 
@@ -102,7 +102,7 @@ module _ {S P : Type 0} (call : S → SupplyCall P → S → Type 0) where
 
     handed_less : (between : ConnPhase P) (old new : S) (now : ℕ) → HandsLess call slot_of old between now new → CallsReturnedFirst call old new
     handed_less (Connected connected) old new now hands =
-        behind call old hands.2 new (handed_some old hands.2 connected.session.membership connected.session.window hands.0 hands.1 hands.3)
+        behind call old hands.2 new (handed_some connected.session.subscription old hands.2 connected.session.membership connected.session.window hands.0 hands.1 hands.3)
         (plain call hands.2 new (parted call hands.2 new (after_hand_out connected hands.0 hands.1).session now hands.4))
     handed_less other old new now hands = absurd hands
 

@@ -168,7 +168,7 @@ few_filters unsubscribe is = ltb-false most_entries (length unsubscribe.filters)
 again : (sent : List Packet) (old new : Contents Held) → SendsAgain old sent new → HandOn sent
 again [] old new sends = tt
 again (packet ∷ packets) old new sends =
-    (record { dup = true; message = sends.0.1.message; identifier = sends.0.0; is = sends.2 }, again packets (after_resend old (Some sends.0)) new sends.3)
+    (record { dup = true; message = sends.0.1.message; subscription = sends.0.1.subscription; identifier = sends.0.0; is = sends.2 }, again packets (after_resend old (Some sends.0)) new sends.3)
 
 module _ {S P : Type 0} (call : S → SupplyCall P → S → Type 0) (slot_of : P → ℕ) where
   -- ---- a connection without its session
@@ -204,11 +204,11 @@ module _ {S P : Type 0} (call : S → SupplyCall P → S → Type 0) (slot_of : 
   published (answers.Offer identifier) old new number publish reply is = told reply _ is.replied (one _ (acknowledged_is_small identifier _))
 
   -- there is a code for each entry
-  codes_for : (identified : Bool) (terms : Terms) (entries : List Subscription) (codes : List ℕ) (old new : S) (membership membership' : Membership P)
-      → AnswersEntries call slot_of identified terms old membership entries codes membership' new → length codes ≡ length entries
-  codes_for identified terms [] codes old new membership membership' is = ap length is.0
-  codes_for identified terms (entry ∷ entries) codes old new membership membership' is =
-      ap length is.6 ∙ ap suc (codes_for identified terms entries is.1 is.3 new is.2 membership' is.5)
+  codes_for : (terms : Terms) (entries : List Subscription) (codes : List ℕ) (old new : S) (membership membership' : Membership P)
+      → AnswersEntries call slot_of terms old membership entries codes membership' new → length codes ≡ length entries
+  codes_for terms [] codes old new membership membership' is = ap length is.0
+  codes_for terms (entry ∷ entries) codes old new membership membership' is =
+      ap length is.6 ∙ ap suc (codes_for terms entries is.1 is.3 new is.2 membership' is.5)
 
   codes_for_filters : (texts : List (List ℕ)) (codes : List ℕ) (old new : S) (membership membership' : Membership P)
       → LeavesByAll call slot_of old membership texts codes membership' new → length codes ≡ length texts
@@ -216,11 +216,11 @@ module _ {S P : Type 0} (call : S → SupplyCall P → S → Type 0) (slot_of : 
   codes_for_filters (text ∷ texts) codes old new membership membership' is =
       ap length is.6 ∙ ap suc (codes_for_filters texts is.1 is.3 new is.2 membership' is.5)
 
-  subscribed : (refusal : Option ℕ) (terms : Terms) (old new : S) (membership membership' : Membership P) (subscribe : Subscribe) (reply : Reply)
-      → subscribe_refusal subscribe ≡ refusal → SubscribesAs call slot_of refusal terms old membership subscribe reply membership' new → IsBrief reply
-  subscribed (Some code) terms old new membership membership' subscribe reply found is = closing reply _ code is.0 refl
-  subscribed None terms old new membership membership' subscribe reply found is =
-      let few : length is.0 ≤ most_entries = omega (arith, few_subscriptions subscribe found, codes_for (is_some subscribe.properties.subscription_identifier) terms subscribe.subscriptions is.0 old new membership membership' is.2) in
+  subscribed : (refusal : Option ℕ) (terms : Terms) (old new : S) (membership membership' : Membership P) (subscription subscription' : Option ℕ) (subscribe : Subscribe) (reply : Reply)
+      → subscribe_refusal subscribe ≡ refusal → SubscribesAs call slot_of refusal terms old membership subscription subscribe reply membership' subscription' new → IsBrief reply
+  subscribed (Some code) terms old new membership membership' subscription subscription' subscribe reply found is = closing reply _ code is.0 refl
+  subscribed None terms old new membership membership' subscription subscription' subscribe reply found is =
+      let few : length is.0 ≤ most_entries = omega (arith, few_subscriptions subscribe found, codes_for terms subscribe.subscriptions is.0 old new membership membership' is.2) in
       told reply _ is.1 (one _ (subscribed_is_small subscribe.packet_identifier is.0 few))
 
   unsubscribed : (refusal : Option ℕ) (old new : S) (membership membership' : Membership P) (unsubscribe : Unsubscribe) (reply : Reply)
@@ -234,7 +234,7 @@ module _ {S P : Type 0} (call : S → SupplyCall P → S → Type 0) (slot_of : 
   answered (packets.Publish publish) old new number connected after reply is = published (publish_answer publish) old new number publish reply is.0
   answered (packets.Puback puback) old new number connected after reply is = told reply _ is.3 tt
   answered (packets.Subscribe subscribe) old new number connected after reply is =
-      subscribed (subscribe_refusal subscribe) connected.terms old new connected.session.membership is.0 subscribe reply refl is.1
+      subscribed (subscribe_refusal subscribe) connected.terms old new connected.session.membership is.0 connected.session.subscription is.1 subscribe reply refl is.2
   answered (packets.Unsubscribe unsubscribe) old new number connected after reply is =
       unsubscribed (unsubscribe_refusal unsubscribe) old new connected.session.membership is.0 unsubscribe reply refl is.1
   answered packets.Pingreq old new number connected after reply is = told reply _ is.1 (one _ answered_is_small)
@@ -283,19 +283,19 @@ module _ {S P : Type 0} (call : S → SupplyCall P → S → Type 0) (slot_of : 
 
   -- ---- what is handed out after the reply
 
-  fresh : (sent : List Packet) (old new : S) (place place' : P) (window window' : Contents Held) → SendsFresh call old place window sent place' window' new → HandOn sent
-  fresh [] old new place place' window window' sends = tt
-  fresh (packet ∷ packets) old new place place' window window' sends =
+  fresh : (subscription : Option ℕ) (sent : List Packet) (old new : S) (place place' : P) (window window' : Contents Held) → SendsFresh call subscription old place window sent place' window' new → HandOn sent
+  fresh subscription [] old new place place' window window' sends = tt
+  fresh subscription (packet ∷ packets) old new place place' window window' sends =
       let hand_out = sends.3 in (
-        record { dup = false; message = hand_out.envelope.message; identifier = hand_out.identifier; is = hand_out.sent },
-        fresh packets sends.2 new sends.0 place' sends.1 window' sends.4,
+        record { dup = false; message = hand_out.envelope.message; subscription = subscription; identifier = hand_out.identifier; is = hand_out.sent },
+        fresh subscription packets sends.2 new sends.0 place' sends.1 window' sends.4,
       )
 
-  handed_fresh : (membership : Membership P) (old new : S) (window window' : Contents Held) (sent : List Packet) (membership' : Membership P)
-      → HandsFresh call old membership window sent membership' window' new → HandOn sent
-  handed_fresh NotMember old new window window' sent membership' hands = subst HandOn (sym hands.0) tt
-  handed_fresh (Member place) old new window window' sent membership' hands = fresh sent old new place hands.0 window window' hands.2
-  handed_fresh (Leaving place) old new window window' sent membership' hands = subst HandOn (sym hands.0) tt
+  handed_fresh : (subscription : Option ℕ) (membership : Membership P) (old new : S) (window window' : Contents Held) (sent : List Packet) (membership' : Membership P)
+      → HandsFresh call subscription old membership window sent membership' window' new → HandOn sent
+  handed_fresh subscription NotMember old new window window' sent membership' hands = subst HandOn (sym hands.0) tt
+  handed_fresh subscription (Member place) old new window window' sent membership' hands = fresh subscription sent old new place hands.0 window window' hands.2
+  handed_fresh subscription (Leaving place) old new window window' sent membership' hands = subst HandOn (sym hands.0) tt
 
   handed : (phase phase' : ConnPhase P) (old new : S) (sent : List Packet) → Hands call slot_of old phase sent phase' new → HandOn sent
   handed (Unconnected opened) phase' old new sent hands = subst HandOn (sym hands.0) tt
@@ -304,7 +304,7 @@ module _ {S P : Type 0} (call : S → SupplyCall P → S → Type 0) (slot_of : 
       let out = hands.2 in
       subst HandOn (sym out.both)
       (both HandsOn out.again out.fresh (again out.again connected.session.window out.between out.sent_again)
-      (handed_fresh connected.session.membership old new out.between hands.1 out.fresh hands.0 out.sent_fresh))
+      (handed_fresh connected.session.subscription connected.session.membership old new out.between hands.1 out.fresh hands.0 out.sent_fresh))
   handed Ended phase' old new sent hands = subst HandOn (sym hands.0) tt
 
   -- ---- a step

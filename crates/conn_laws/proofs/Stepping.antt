@@ -286,8 +286,8 @@ module _ {S P : Type 0} (call : S → SupplyCall P → S → Type 0) where
         comes_to (alike after _ answers.2) (acknowledged_as connected.session.membership old new number connected puback _ _ reply.next refl answers.1.settles)
     answered (packets.Subscribe subscribe) old new number now connected after reply answers =
         idle old new number (Connected connected) _ reply.next
-        (becomes call (alike after _ answers.2)
-        (subscribed_as call slot_of (subscribe_refusal subscribe) old new connected.terms connected.session.membership subscribe reply answers.0 answers.1))
+        (becomes call (alike after _ answers.3)
+        (subscribed_as call slot_of (subscribe_refusal subscribe) old new connected.terms connected.session.membership connected.session.subscription subscribe reply answers.0 answers.1 answers.2))
         (λ p b. b, λ e f c. c)
     answered (packets.Unsubscribe unsubscribe) old new number now connected after reply answers =
         idle old new number (Connected connected) _ reply.next
@@ -379,7 +379,7 @@ module _ {S P : Type 0} (call : S → SupplyCall P → S → Type 0) where
     handed_behind (Unconnected opened) old new sent phase hands = none_behind_it (Unconnected opened) old new sent phase hands
     handed_behind (Waiting request ticks) old new sent phase hands = none_behind_it (Waiting request ticks) old new sent phase hands
     handed_behind (Connected connected) old new sent phase hands =
-        let out = handed_out call old new connected.session.membership connected.session.window sent hands.0 hands.1 hands.2 in
+        let out = handed_out call connected.session.subscription old new connected.session.membership connected.session.window sent hands.0 hands.1 hands.2 in
         subst (λ after. HandsBehind (fresh_messages sent) (Connected connected) old after new) (sym hands.3)
         (record {
           calls = out.calls;

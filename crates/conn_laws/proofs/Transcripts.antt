@@ -4,7 +4,7 @@ use Rattle.std.specs.List.{AllByRecursion}
 use Rattle.std.specs.Option.{option_to_list}
 use Rattle.std.proofs.lemmas.List.Elements.{filter_map-append}
 use Rattle.mqtt_packet.specs.declared.packet.Packet.{Packet}
-use Rattle.group_jobs.specs.Stamps.{Held}
+use Rattle.group_jobs.specs.Stamps.{Held, under}
 use Rattle.member_window.specs.Contents.{Contents, after_up}
 use Rattle.member_window.specs.Marks.{Mark, Up}
 use Rattle.member_window.specs.Calls.{Call}
@@ -118,7 +118,7 @@ module _ {S P : Type 0} (call : S → SupplyCall P → S → Type 0) where
 
   -- this is handed out
   hands : {places : List P} (old mid new : S) (number : ℕ) (phase : ConnPhase P) (input : Input) (sent : List Packet) (next : Then) (connected : ConnectedClient P) (membership : Membership P)
-      (window : Contents Held) → SessionStepped call old number phase input next (Connected connected) mid → Handed call mid places connected.session.window sent membership window new
+      (window : Contents Held) → SessionStepped call old number phase input next (Connected connected) mid → Handed call connected.session.subscription mid places connected.session.window sent membership window new
       → Transcribes call old number phase input sent next (Connected (after_hand_out connected membership window)) new
   hands old mid new number phase input sent next connected membership window turned out =
       let more : List (Mark Held) = transcript_of out.sends.calls in
@@ -133,7 +133,7 @@ module _ {S P : Type 0} (call : S → SupplyCall P → S → Type 0) where
         supply_calls = turned.supply_calls ++ out.calls.supply_calls;
         made = joins call turned.supply_calls out.calls.supply_calls old mid new turned.made out.calls.made;
         hands =
-            ap (map (λ (h : P × Held). h.1)) these ∙ out.sends.fresh_are
+            ap (map (λ (h : P × Held). under connected.session.subscription h.1)) these ∙ out.sends.fresh_are
             ∙ sym (filter_map-append fresh_in turned.marks more ∙ ap (λ (items : List Held). items ++ fresh_of more) turned.none_fresh);
         own = λ of keeps. subst (AllByRecursion (λ (h : P × Held). HasOneAs of membership h.0)) (sym these) (out.own of keeps);
         settles = settles_on phase input next turned.marks more turned.supply_calls out.calls.supply_calls turned.settles out.sends.none_acked out.calls.settles;
@@ -146,7 +146,7 @@ module _ {S P : Type 0} (call : S → SupplyCall P → S → Type 0) where
     handed_behind (Waiting request ticks) old mid new number phase input sent next phase' turned does = stays old mid new number phase input sent next _ phase' turned does.0 does.1 does.2
     handed_behind (Connected connected) old mid new number phase input sent next phase' turned does =
         subst (λ s. Transcribes call old number phase input sent next s new) (sym does.3)
-        (hands old mid new number phase input sent next connected does.0 does.1 turned (handed_out call mid new connected.session.membership connected.session.window sent does.0 does.1 does.2))
+        (hands old mid new number phase input sent next connected does.0 does.1 turned (handed_out call connected.session.subscription mid new connected.session.membership connected.session.window sent does.0 does.1 does.2))
     handed_behind Ended old mid new number phase input sent next phase' turned does = stays old mid new number phase input sent next _ phase' turned does.0 does.1 does.2
 
     pub transcribed : (old new : S) (number now : ℕ) (phase phase' : ConnPhase P) (input : Input) (packets : List Packet) (next : Then)

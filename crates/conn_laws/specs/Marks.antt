@@ -19,7 +19,7 @@ publishes_in sent = filter_map as_publish sent
 -- the PUBLISH packet that a mark stands for
 abbrev pub publish_of : Mark Held → Option Packet
 publish_of (Up receive_maximum) = None
-publish_of (Sent identifier dup envelope) = Some (job dup envelope.message identifier)
+publish_of (Sent identifier dup envelope) = Some (job dup envelope.message envelope.subscription identifier)
 publish_of (Acked identifier code) = None
 publish_of Down = None
 

@@ -1,5 +1,5 @@
 -- How long the packets are that the broker sends (sections 2.1.4, 3.1.2.11.4, 3.2.2.3.7 and 3.3).
-use Rattle.std.specs.Prelude.{◌≡◌, ◌⊎◌, ℕ, ◌≤◌, Bool, List, length, Some}
+use Rattle.std.specs.Prelude.{◌≡◌, ◌⊎◌, ℕ, ◌≤◌, Bool, List, length, Option, Some}
 use Rattle.mqtt_packet.specs.declared.packet.Packet.{Packet}
 use Rattle.mqtt_packet.specs.Texts.{IsText}
 use Rattle.mqtt_wire.specs.Writing.{written}
@@ -21,9 +21,9 @@ most_bytes = 65558
 abbrev pub IsShort : Packet → Type 0
 IsShort packet = length (written packet) ≤ most_bytes
 
--- a message that is short in each PUBLISH in which it is handed on
+-- a message that is short in each PUBLISH in which it is handed on, under whatever Subscription Identifier
 abbrev pub IsLight : Message → Type 0
-IsLight message = (dup : Bool) (identifier : ℕ) → IsShort (job dup message identifier)
+IsLight message = (dup : Bool) (subscription : Option ℕ) (identifier : ℕ) → IsShort (job dup message subscription identifier)
 
 -- a CONNACK that tells a client the identifier that it was given (3.2.2.3.7)
 pub record Assigns (packet : Packet) : Type 0 where
@@ -36,8 +36,9 @@ pub record Assigns (packet : Packet) : Type 0 where
 pub record HandsOn (packet : Packet) : Type 0 where
   pub dup : Bool
   pub message : Message
+  pub subscription : Option ℕ
   pub identifier : ℕ
-  pub is : packet ≡ job dup message identifier
+  pub is : packet ≡ job dup message subscription identifier
 
 -- what answers an input: small, or it assigns an identifier
 abbrev pub IsAnswer : Packet → Type 0

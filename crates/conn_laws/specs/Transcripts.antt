@@ -2,7 +2,7 @@
 use Rattle.std.specs.Prelude.{◌≡◌, ◌⊎◌, ℕ, false, List, [], ◌∷◌, map, Option, Some, None, Result, Ok, Err, ⊤}
 use Rattle.std.specs.List.{AllByRecursion}
 use Rattle.mqtt_packet.specs.declared.packet.Packet.{Packet}
-use Rattle.group_jobs.specs.Stamps.{Held}
+use Rattle.group_jobs.specs.Stamps.{Held, under}
 use Rattle.member_window.specs.Contents.{after_up, after_down}
 use Rattle.member_window.specs.Marks.{Mark, Up, Down}
 use Rattle.member_window.specs.Calls.{Call}
@@ -32,6 +32,11 @@ connected_of (Unconnected opened) = None
 connected_of (Waiting request ticks) = None
 connected_of (Connected connected) = Some connected
 connected_of Ended = None
+
+-- the Subscription Identifier of the session of a connection (3.8.2.1.2)
+abbrev pub subscription_of : {P : Type 0} → Option (ConnectedClient P) → Option ℕ
+subscription_of None = None
+subscription_of (Some connected) = connected.session.subscription
 
 -- the session of a client that is connected is not ending
 abbrev pub IsNotEnding : {P : Type 0} → ConnPhase P → Type 0
@@ -150,9 +155,9 @@ module _ {S P : Type 0} (call : S → SupplyCall P → S → Type 0) where
     pub publishes : publishes_in sent ≡ publishes_of marks
     pub supply_calls : List (SupplyCall P)
     pub made : MakesAll call old supply_calls new
-    -- what is handed out is what is sent for the first time, in that order; and to the place of this session, as far as any number of a place
+    -- what is handed out is what is sent for the first time, in that order, under the session's Subscription Identifier; and to the place of this session, as far as any number of a place
     -- tells that stays where the place is asked for a message: its slot, its number in the group
-    pub hands : map (λ (h : P × Held). h.1) (handed supply_calls) ≡ fresh_of marks
+    pub hands : map (λ (h : P × Held). under (subscription_of (connected_of phase')) h.1) (handed supply_calls) ≡ fresh_of marks
     pub own : (of : P → ℕ) → KeepsNumbers of → AllByRecursion (λ (h : P × Held). IsMemberAt of (connected_of phase') h.0) (handed supply_calls)
     -- what is acknowledged is settled, by the PUBACK that came; and nothing else is. No PUBACK for what the session holds is passed over, unless
     -- another connection took the session

@@ -10,5 +10,6 @@ settle-requires g c = record {
   all = c.in-Ok-Some.envelope ∷ [];
   others = [];
   one = record { before = []; behind = []; together = refl; apart = refl };
-  out = subst (λ (found : Option Held). HasOut c.take.new.self (with_found [] (Ok found))) c.in-Ok-Some.field-0-is (c.in-Ok-Some.ensures.out [] c.requires.none);
+  out = subst (λ (found : Option Held). HasOut c.take.new.self (with_found [] c.in-Ok-Some.envelope.subscription (Ok found))) c.in-Ok-Some.field-0-is
+      (c.in-Ok-Some.ensures.out [] c.in-Ok-Some.envelope.subscription c.requires.none);
 }
