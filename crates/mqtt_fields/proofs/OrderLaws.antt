@@ -6,9 +6,9 @@ use Rattle.std.proofs.lemmas.List.Concat.{flat_map-append, flat_map-cons}
 use Rattle.mqtt_fields.specs.declared.property.Property.{Property}
 use Rattle.mqtt_fields.specs.declared.property.Property.TheVariants.{PayloadFormatIndicator, MessageExpiryInterval, ContentType, ResponseTopic, CorrelationData, SubscriptionIdentifier, SessionExpiryInterval, AuthenticationMethod, AuthenticationData, RequestProblemInformation, RequestResponseInformation, ReasonString, ReceiveMaximum, TopicAliasMaximum, TopicAlias, UserProperty, MaximumPacketSize}
 use Rattle.mqtt_packet.specs.declared.user_properties.UserProperty.{UserProperty as Pair}
+use Rattle.mqtt_packet.specs.declared.packet.Publish.{Publish}
 use Rattle.mqtt_packet.specs.declared.packet_properties.Authentication.{Authentication}
 use Rattle.mqtt_packet.specs.declared.packet_properties.ConnectProperties.{ConnectProperties}
-use Rattle.mqtt_packet.specs.declared.packet_properties.PublishProperties.{PublishProperties}
 use Rattle.mqtt_packet.specs.declared.packet_properties.PubackProperties.{PubackProperties}
 use Rattle.mqtt_packet.specs.declared.packet_properties.SubscribeProperties.{SubscribeProperties}
 use Rattle.mqtt_packet.specs.declared.packet_properties.UnsubscribeProperties.{UnsubscribeProperties}
@@ -100,14 +100,15 @@ connect_rises p = ends (connect_list p) 0x11 0x27
     (followed 0x22 0x22 0x26 0x27 (maybe TopicAliasMaximum 0x22 p.topic_alias_maximum (λ _. refl)) (omega arith)
     (followed 0x26 0x26 0x27 0x27 (user p.user_properties) (omega arith) (maybe MaximumPacketSize 0x27 p.maximum_packet_size (λ _. refl)))))))))
 
-pub publish_rises : (p : PublishProperties) → AreRising (publish_list p)
+pub publish_rises : (p : Publish) → AreRising (publish_list p)
 publish_rises p = ends (publish_list p) 0x01 0x26
-    (followed 0x01 0x01 0x02 0x26 (maybe PayloadFormatIndicator 0x01 p.payload_format_indicator (λ _. refl)) (omega arith)
+    (followed 0x01 0x01 0x02 0x26 (maybe PayloadFormatIndicator 0x01 p.properties.payload_format_indicator (λ _. refl)) (omega arith)
     (followed 0x02 0x02 0x03 0x26 (maybe MessageExpiryInterval 0x02 p.message_expiry_interval (λ _. refl)) (omega arith)
-    (followed 0x03 0x03 0x08 0x26 (maybe ContentType 0x03 p.content_type (λ _. refl)) (omega arith)
-    (followed 0x08 0x08 0x09 0x26 (maybe ResponseTopic 0x08 p.response_topic (λ _. refl)) (omega arith)
-    (followed 0x09 0x09 0x23 0x26 (maybe CorrelationData 0x09 p.correlation_data (λ _. refl)) (omega arith)
-    (followed 0x23 0x23 0x26 0x26 (maybe TopicAlias 0x23 p.topic_alias (λ _. refl)) (omega arith) (user p.user_properties)))))))
+    (followed 0x03 0x03 0x08 0x26 (maybe ContentType 0x03 p.properties.content_type (λ _. refl)) (omega arith)
+    (followed 0x08 0x08 0x09 0x26 (maybe ResponseTopic 0x08 p.properties.response_topic (λ _. refl)) (omega arith)
+    (followed 0x09 0x09 0x0B 0x26 (maybe CorrelationData 0x09 p.properties.correlation_data (λ _. refl)) (omega arith)
+    (followed 0x0B 0x0B 0x23 0x26 (maybe SubscriptionIdentifier 0x0B p.subscription_identifier (λ _. refl)) (omega arith)
+    (followed 0x23 0x23 0x26 0x26 (maybe TopicAlias 0x23 p.properties.topic_alias (λ _. refl)) (omega arith) (user p.properties.user_properties))))))))
 
 pub puback_rises : (p : PubackProperties) → AreRising (puback_list p)
 puback_rises p = ends (puback_list p) 0x1F 0x26 (followed 0x1F 0x1F 0x26 0x26 (maybe ReasonString 0x1F p.reason_string (λ _. refl)) (omega arith) (user p.user_properties))

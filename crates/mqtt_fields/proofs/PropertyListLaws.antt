@@ -9,9 +9,9 @@ use Rattle.mqtt_fields.specs.declared.property.Property.{Property}
 use Rattle.mqtt_fields.specs.declared.property.Property.TheVariants.{PayloadFormatIndicator, MessageExpiryInterval, ContentType, ResponseTopic, CorrelationData, SubscriptionIdentifier, SessionExpiryInterval, AuthenticationMethod, AuthenticationData, RequestProblemInformation, RequestResponseInformation, ReasonString, ReceiveMaximum, TopicAliasMaximum, TopicAlias, UserProperty, MaximumPacketSize}
 use Rattle.mqtt_fields.specs.declared.properties.Properties.{Properties}
 use Rattle.mqtt_packet.specs.declared.user_properties.UserProperty.{UserProperty as Pair}
+use Rattle.mqtt_packet.specs.declared.packet.Publish.{Publish}
 use Rattle.mqtt_packet.specs.declared.packet_properties.Authentication.{Authentication}
 use Rattle.mqtt_packet.specs.declared.packet_properties.ConnectProperties.{ConnectProperties}
-use Rattle.mqtt_packet.specs.declared.packet_properties.PublishProperties.{PublishProperties}
 use Rattle.mqtt_packet.specs.declared.packet_properties.PubackProperties.{PubackProperties}
 use Rattle.mqtt_packet.specs.declared.packet_properties.SubscribeProperties.{SubscribeProperties}
 use Rattle.mqtt_packet.specs.declared.packet_properties.UnsubscribeProperties.{UnsubscribeProperties}
@@ -62,20 +62,23 @@ spelled section bytes all g = (g.list, ap properties g.parts, g.adds)
 
 -- ---- PUBLISH
 
-abbrev pub all_of_publish : PublishProperties → Properties
-all_of_publish p = record (record (record (record (record (record (record (nothing) { payload_format_indicator = p.payload_format_indicator }) { message_expiry_interval = p.message_expiry_interval }) { content_type = p.content_type }) { response_topic = p.response_topic }) { correlation_data = p.correlation_data }) { topic_alias = p.topic_alias }) { user_properties = p.user_properties }
+abbrev pub all_of_publish : Publish → Properties
+all_of_publish p = record (record (record (record (record (record (record (nothing) { payload_format_indicator = p.properties.payload_format_indicator }) { message_expiry_interval = p.message_expiry_interval }) { content_type = p.properties.content_type }) { response_topic = p.properties.response_topic }) { correlation_data = p.properties.correlation_data }) { topic_alias = p.properties.topic_alias }) { user_properties = p.properties.user_properties }
 
-pub publish_gathered : (p : PublishProperties) → PublishFits p → Gathered sections.Publish nothing (publish_list p) (all_of_publish p)
-publish_gathered p fits =
-    let g0 = last sections.Publish (record (record (record (record (record (record (nothing) { payload_format_indicator = p.payload_format_indicator }) { message_expiry_interval = p.message_expiry_interval }) { content_type = p.content_type }) { response_topic = p.response_topic }) { correlation_data = p.correlation_data }) { topic_alias = p.topic_alias }) (user_bytes p.user_properties) (all_of_publish p) (users sections.Publish (λ some. record (record (record (record (record (record (record (nothing) { payload_format_indicator = p.payload_format_indicator }) { message_expiry_interval = p.message_expiry_interval }) { content_type = p.content_type }) { response_topic = p.response_topic }) { correlation_data = p.correlation_data }) { topic_alias = p.topic_alias }) { user_properties = some }) [] p.user_properties [] (all_of_publish p) (λ some pair. refl) (λ some. refl) fits.user_properties (ended sections.Publish (all_of_publish p))) in
-    let g1 = step sections.Publish TopicAlias (λ v. record (record (record (record (record (record (nothing) { payload_format_indicator = p.payload_format_indicator }) { message_expiry_interval = p.message_expiry_interval }) { content_type = p.content_type }) { response_topic = p.response_topic }) { correlation_data = p.correlation_data }) { topic_alias = v }) p.topic_alias (user_bytes p.user_properties) (all_of_publish p) (λ x. refl) (λ x. refl) fits.topic_alias g0 in
-    let g2 = step sections.Publish CorrelationData (λ v. record (record (record (record (record (nothing) { payload_format_indicator = p.payload_format_indicator }) { message_expiry_interval = p.message_expiry_interval }) { content_type = p.content_type }) { response_topic = p.response_topic }) { correlation_data = v }) p.correlation_data (optional TopicAlias p.topic_alias ++ (user_bytes p.user_properties)) (all_of_publish p) (λ x. refl) (λ x. refl) fits.correlation_data g1 in
-    let g3 = step sections.Publish ResponseTopic (λ v. record (record (record (record (nothing) { payload_format_indicator = p.payload_format_indicator }) { message_expiry_interval = p.message_expiry_interval }) { content_type = p.content_type }) { response_topic = v }) p.response_topic (optional CorrelationData p.correlation_data ++ (optional TopicAlias p.topic_alias ++ (user_bytes p.user_properties))) (all_of_publish p) (λ x. refl) (λ x. refl) fits.response_topic g2 in
-    let g4 = step sections.Publish ContentType (λ v. record (record (record (nothing) { payload_format_indicator = p.payload_format_indicator }) { message_expiry_interval = p.message_expiry_interval }) { content_type = v }) p.content_type (optional ResponseTopic p.response_topic ++ (optional CorrelationData p.correlation_data ++ (optional TopicAlias p.topic_alias ++ (user_bytes p.user_properties)))) (all_of_publish p) (λ x. refl) (λ x. refl) fits.content_type g3 in
-    let g5 = step sections.Publish MessageExpiryInterval (λ v. record (record (nothing) { payload_format_indicator = p.payload_format_indicator }) { message_expiry_interval = v }) p.message_expiry_interval (optional ContentType p.content_type ++ (optional ResponseTopic p.response_topic ++ (optional CorrelationData p.correlation_data ++ (optional TopicAlias p.topic_alias ++ (user_bytes p.user_properties))))) (all_of_publish p) (λ x. refl) (λ x. refl) fits.message_expiry_interval g4 in
-    step sections.Publish PayloadFormatIndicator (λ v. record (nothing) { payload_format_indicator = v }) p.payload_format_indicator (optional MessageExpiryInterval p.message_expiry_interval ++ (optional ContentType p.content_type ++ (optional ResponseTopic p.response_topic ++ (optional CorrelationData p.correlation_data ++ (optional TopicAlias p.topic_alias ++ (user_bytes p.user_properties)))))) (all_of_publish p) (λ x. refl) (λ x. refl) fits.payload_format_indicator g5
+-- one that a server sends for a subscription is not read again
+pub publish_gathered : (p : Publish) → p.subscription_identifier ≡ None → PublishFits p → Gathered sections.Publish nothing (publish_list p) (all_of_publish p)
+publish_gathered p none fits =
+    let plain : optional SubscriptionIdentifier p.subscription_identifier ≡ [] = ap (λ (identifier : Option ℕ). optional SubscriptionIdentifier identifier) none in
+    let g0 = last sections.Publish (record (record (record (record (record (record (nothing) { payload_format_indicator = p.properties.payload_format_indicator }) { message_expiry_interval = p.message_expiry_interval }) { content_type = p.properties.content_type }) { response_topic = p.properties.response_topic }) { correlation_data = p.properties.correlation_data }) { topic_alias = p.properties.topic_alias }) (user_bytes p.properties.user_properties) (all_of_publish p) (users sections.Publish (λ some. record (record (record (record (record (record (record (nothing) { payload_format_indicator = p.properties.payload_format_indicator }) { message_expiry_interval = p.message_expiry_interval }) { content_type = p.properties.content_type }) { response_topic = p.properties.response_topic }) { correlation_data = p.properties.correlation_data }) { topic_alias = p.properties.topic_alias }) { user_properties = some }) [] p.properties.user_properties [] (all_of_publish p) (λ some pair. refl) (λ some. refl) fits.user_properties (ended sections.Publish (all_of_publish p))) in
+    let g1 = step sections.Publish TopicAlias (λ v. record (record (record (record (record (record (nothing) { payload_format_indicator = p.properties.payload_format_indicator }) { message_expiry_interval = p.message_expiry_interval }) { content_type = p.properties.content_type }) { response_topic = p.properties.response_topic }) { correlation_data = p.properties.correlation_data }) { topic_alias = v }) p.properties.topic_alias (user_bytes p.properties.user_properties) (all_of_publish p) (λ x. refl) (λ x. refl) fits.topic_alias g0 in
+    let g2 = step sections.Publish CorrelationData (λ v. record (record (record (record (record (nothing) { payload_format_indicator = p.properties.payload_format_indicator }) { message_expiry_interval = p.message_expiry_interval }) { content_type = p.properties.content_type }) { response_topic = p.properties.response_topic }) { correlation_data = v }) p.properties.correlation_data (optional TopicAlias p.properties.topic_alias ++ (user_bytes p.properties.user_properties)) (all_of_publish p) (λ x. refl) (λ x. refl) fits.correlation_data g1 in
+    let g3 = step sections.Publish ResponseTopic (λ v. record (record (record (record (nothing) { payload_format_indicator = p.properties.payload_format_indicator }) { message_expiry_interval = p.message_expiry_interval }) { content_type = p.properties.content_type }) { response_topic = v }) p.properties.response_topic (optional CorrelationData p.properties.correlation_data ++ (optional TopicAlias p.properties.topic_alias ++ (user_bytes p.properties.user_properties))) (all_of_publish p) (λ x. refl) (λ x. refl) fits.response_topic g2 in
+    let g4 = step sections.Publish ContentType (λ v. record (record (record (nothing) { payload_format_indicator = p.properties.payload_format_indicator }) { message_expiry_interval = p.message_expiry_interval }) { content_type = v }) p.properties.content_type (optional ResponseTopic p.properties.response_topic ++ (optional CorrelationData p.properties.correlation_data ++ (optional TopicAlias p.properties.topic_alias ++ (user_bytes p.properties.user_properties)))) (all_of_publish p) (λ x. refl) (λ x. refl) fits.content_type g3 in
+    let g5 = step sections.Publish MessageExpiryInterval (λ v. record (record (nothing) { payload_format_indicator = p.properties.payload_format_indicator }) { message_expiry_interval = v }) p.message_expiry_interval (optional ContentType p.properties.content_type ++ (optional ResponseTopic p.properties.response_topic ++ (optional CorrelationData p.properties.correlation_data ++ (optional TopicAlias p.properties.topic_alias ++ (user_bytes p.properties.user_properties))))) (all_of_publish p) (λ x. refl) (λ x. refl) fits.message_expiry_interval g4 in
+    let g6 = step sections.Publish PayloadFormatIndicator (λ v. record (nothing) { payload_format_indicator = v }) p.properties.payload_format_indicator (optional MessageExpiryInterval p.message_expiry_interval ++ (optional ContentType p.properties.content_type ++ (optional ResponseTopic p.properties.response_topic ++ (optional CorrelationData p.properties.correlation_data ++ (optional TopicAlias p.properties.topic_alias ++ (user_bytes p.properties.user_properties)))))) (all_of_publish p) (λ x. refl) (λ x. refl) fits.payload_format_indicator g5 in
+    subst (λ (identifier : List ℕ). Gathered sections.Publish nothing (optional PayloadFormatIndicator p.properties.payload_format_indicator ++ (optional MessageExpiryInterval p.message_expiry_interval ++ (optional ContentType p.properties.content_type ++ (optional ResponseTopic p.properties.response_topic ++ (optional CorrelationData p.properties.correlation_data ++ (identifier ++ (optional TopicAlias p.properties.topic_alias ++ (user_bytes p.properties.user_properties)))))))) (all_of_publish p)) (sym plain) g6
 
-pub publish_back : (p : PublishProperties) → publish_of (all_of_publish p) ≡ p
+pub publish_back : (p : Publish) → publish_of (all_of_publish p) ≡ p.properties
 publish_back p = refl
 
 -- ---- PUBACK

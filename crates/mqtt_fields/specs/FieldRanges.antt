@@ -4,9 +4,9 @@ use Rattle.std.specs.List.{AllByRecursion}
 use Rattle.mqtt_fields.specs.declared.property.Property.{Property}
 use Rattle.mqtt_fields.specs.declared.property.Property.TheVariants.{PayloadFormatIndicator, MessageExpiryInterval, ContentType, ResponseTopic, CorrelationData, SubscriptionIdentifier, SessionExpiryInterval, AuthenticationData, RequestProblemInformation, RequestResponseInformation, ReasonString, ReceiveMaximum, TopicAliasMaximum, TopicAlias, MaximumPacketSize}
 use Rattle.mqtt_packet.specs.declared.user_properties.UserProperty.{UserProperty as Pair}
+use Rattle.mqtt_packet.specs.declared.packet.Publish.{Publish}
 use Rattle.mqtt_packet.specs.declared.packet_properties.Authentication.{Authentication}
 use Rattle.mqtt_packet.specs.declared.packet_properties.ConnectProperties.{ConnectProperties}
-use Rattle.mqtt_packet.specs.declared.packet_properties.PublishProperties.{PublishProperties}
 use Rattle.mqtt_packet.specs.declared.packet_properties.PubackProperties.{PubackProperties}
 use Rattle.mqtt_packet.specs.declared.packet_properties.SubscribeProperties.{SubscribeProperties}
 use Rattle.mqtt_packet.specs.declared.packet_properties.UnsubscribeProperties.{UnsubscribeProperties}
@@ -39,14 +39,15 @@ pub record ConnectFits (p : ConnectProperties) : Type 0 where
   pub user_properties : ArePairs p.user_properties
   pub maximum_packet_size : Fits MaximumPacketSize p.maximum_packet_size
 
-pub record PublishFits (p : PublishProperties) : Type 0 where
-  pub payload_format_indicator : Fits PayloadFormatIndicator p.payload_format_indicator
+pub record PublishFits (p : Publish) : Type 0 where
+  pub payload_format_indicator : Fits PayloadFormatIndicator p.properties.payload_format_indicator
   pub message_expiry_interval : Fits MessageExpiryInterval p.message_expiry_interval
-  pub content_type : Fits ContentType p.content_type
-  pub response_topic : Fits ResponseTopic p.response_topic
-  pub correlation_data : Fits CorrelationData p.correlation_data
-  pub topic_alias : Fits TopicAlias p.topic_alias
-  pub user_properties : ArePairs p.user_properties
+  pub content_type : Fits ContentType p.properties.content_type
+  pub response_topic : Fits ResponseTopic p.properties.response_topic
+  pub correlation_data : Fits CorrelationData p.properties.correlation_data
+  pub subscription_identifier : Fits SubscriptionIdentifier p.subscription_identifier
+  pub topic_alias : Fits TopicAlias p.properties.topic_alias
+  pub user_properties : ArePairs p.properties.user_properties
 
 pub record PubackFits (p : PubackProperties) : Type 0 where
   pub reason_string : Fits ReasonString p.reason_string

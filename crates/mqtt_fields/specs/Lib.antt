@@ -1,10 +1,10 @@
 pub mod Faults
 pub mod Forms
-pub mod Sizes
 pub mod Buffers
 pub mod Fields
 pub mod Properties
 pub mod Sections
 pub mod PropertyLists
+pub mod Sizes
 pub mod Orders
 pub mod FieldRanges

@@ -7,6 +7,7 @@ use Rattle.mqtt_fields.specs.declared.property.Property.{Property}
 use Rattle.mqtt_fields.specs.declared.property.Property.TheVariants.{PayloadFormatIndicator, MessageExpiryInterval, ContentType, ResponseTopic, CorrelationData, SubscriptionIdentifier, SessionExpiryInterval, AuthenticationMethod, AuthenticationData, RequestProblemInformation, RequestResponseInformation, ReasonString, ReceiveMaximum, TopicAliasMaximum, TopicAlias, UserProperty, MaximumPacketSize}
 use Rattle.mqtt_fields.specs.declared.properties.Properties.{Properties}
 use Rattle.mqtt_packet.specs.declared.user_properties.UserProperty.{UserProperty as Pair}
+use Rattle.mqtt_packet.specs.declared.packet.Publish.{Publish}
 use Rattle.mqtt_packet.specs.declared.packet_properties.Authentication.{Authentication}
 use Rattle.mqtt_packet.specs.declared.packet_properties.ConnectProperties.{ConnectProperties}
 use Rattle.mqtt_packet.specs.declared.packet_properties.PublishProperties.{PublishProperties}
@@ -71,11 +72,10 @@ connect_list p =
     ++ (user_bytes p.user_properties
     ++ optional MaximumPacketSize p.maximum_packet_size))))))
 
--- 3.3.2.3 PUBLISH
+-- 3.3.2.3 PUBLISH: all but the Message Expiry Interval, which is a field of the packet's own
 abbrev pub publish_of : Properties → PublishProperties
 publish_of all = record {
   payload_format_indicator = all.payload_format_indicator;
-  message_expiry_interval = all.message_expiry_interval;
   content_type = all.content_type;
   response_topic = all.response_topic;
   correlation_data = all.correlation_data;
@@ -84,19 +84,20 @@ publish_of all = record {
 }
 
 -- what taking them gives, where they are taken with no list of all properties
-abbrev pub GivesPublish : Result PublishProperties Fault → List ℕ → Result (Properties × List ℕ) StreamFault → Type 0
-GivesPublish (Ok properties) rest field = (all : Properties) × (properties ≡ publish_of all) × (field ≡ Ok (all, rest))
+abbrev pub GivesPublish : Result (Option ℕ × PublishProperties) Fault → List ℕ → Result (Properties × List ℕ) StreamFault → Type 0
+GivesPublish (Ok found) rest field = (all : Properties) × (found ≡ (all.message_expiry_interval, publish_of all)) × (field ≡ Ok (all, rest))
 GivesPublish (Err e) rest field = Fails e field
 
-abbrev pub publish_list : PublishProperties → List ℕ
+abbrev pub publish_list : Publish → List ℕ
 publish_list p =
-    optional PayloadFormatIndicator p.payload_format_indicator
+    optional PayloadFormatIndicator p.properties.payload_format_indicator
     ++ (optional MessageExpiryInterval p.message_expiry_interval
-    ++ (optional ContentType p.content_type
-    ++ (optional ResponseTopic p.response_topic
-    ++ (optional CorrelationData p.correlation_data
-    ++ (optional TopicAlias p.topic_alias
-    ++ user_bytes p.user_properties)))))
+    ++ (optional ContentType p.properties.content_type
+    ++ (optional ResponseTopic p.properties.response_topic
+    ++ (optional CorrelationData p.properties.correlation_data
+    ++ (optional SubscriptionIdentifier p.subscription_identifier
+    ++ (optional TopicAlias p.properties.topic_alias
+    ++ user_bytes p.properties.user_properties))))))
 
 -- 3.4.2.2 PUBACK
 abbrev pub puback_of : Properties → PubackProperties

@@ -36,8 +36,8 @@ pub use laws::written_properties_rise;
 pub use properties::Properties;
 pub use property::{Property, PropertyName, Section};
 pub use property_sizes::{
-    connect_list_size, disconnect_list_size, puback_list_size, publish_properties_size,
-    section_size, subscribe_list_size, unsubscribe_list_size, variable_size,
+    connect_list_size, disconnect_list_size, puback_list_size, publish_list_size, section_size,
+    subscribe_list_size, unsubscribe_list_size, variable_size,
 };
 pub use property_writing::{
     put_connect_properties, put_disconnect_list, put_maximum_packet_size, put_no_properties,

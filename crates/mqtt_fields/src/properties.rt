@@ -140,19 +140,19 @@ impl Properties {
         })
     }
 
-    /// Those of a PUBLISH.
-    pub fn into_publish(self) -> PublishProperties
-        ensures { result ≡ publish_of self }
+    /// Those of a PUBLISH: its Message Expiry Interval, and the others.
+    pub fn into_publish(self) -> (Option<u32>, PublishProperties)
+        ensures { result ≡ (self.message_expiry_interval, publish_of self) }
     {
-        PublishProperties {
+        let others = PublishProperties {
             payload_format_indicator: self.payload_format_indicator,
-            message_expiry_interval: self.message_expiry_interval,
             content_type: self.content_type,
             response_topic: self.response_topic,
             correlation_data: self.correlation_data,
             topic_alias: self.topic_alias,
             user_properties: self.user_properties,
-        }
+        };
+        (self.message_expiry_interval, others)
     }
 
     /// Those of a PUBACK.

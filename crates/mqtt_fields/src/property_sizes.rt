@@ -4,11 +4,11 @@
 ghost use Rattle.std.specs.Prelude.{◌≡◌, ◌<◌, ◌≤◌, ◌+◌, ◌∷◌, [], ℕ, min, length, MatchOption};
 ghost use Rattle.mqtt_fields.specs.Forms.{u16_bytes, u32_bytes, binary_data, utf8_string, variable_byte_integer, bit};
 ghost use Rattle.mqtt_fields.specs.PropertyLists.{bytes_if, user_bytes, authentication_bytes, connect_list, publish_list, puback_list, subscribe_list, unsubscribe_list, disconnect_list};
-ghost use Rattle.mqtt_fields.specs.Sizes.{greatest};
+ghost use Rattle.mqtt_fields.specs.Sizes.{greatest, rare_length};
 
 use mqtt_packet::{
     Authentication, Binary, ConnectProperties, DisconnectProperties, MaximumPacketSize,
-    PubackProperties, PublishProperties, RareProperties, ReceiveMaximum, SubscribeProperties,
+    PubackProperties, Publish, PublishProperties, ReceiveMaximum, SubscribeProperties,
     SubscriptionIdentifier, Text, UnsubscribeProperties, UserProperty,
 };
 
@@ -29,22 +29,22 @@ pub fn connect_list_size(properties: &ConnectProperties) -> usize
 }
 
 /// How many bytes the properties of a PUBLISH are written in; the greatest `usize` where they are more.
-pub fn publish_properties_size(properties: &RareProperties) -> usize
-    ensures { result ≡ min (length (publish_list properties.now)) greatest }
+pub fn publish_list_size(publish: &Publish) -> usize
+    ensures { result ≡ min (length (publish_list publish.now)) greatest }
 {
-    match properties.get() {
-        Some(properties) => publish_list_size(properties),
-        None => 0,
+    let own = u32_size(publish.message_expiry_interval)
+        + subscription_identifier_size(publish.subscription_identifier);
+    match publish.properties.get() {
+        Some(properties) => rare_size(properties).saturating_add(own),
+        None => own,
     }
 }
 
-/// Those of a PUBLISH that has some.
-fn publish_list_size(properties: &PublishProperties) -> usize
-    ensures { result ≡ min (length (publish_list properties.now)) greatest }
+/// Those of a PUBLISH that stand apart from it.
+fn rare_size(properties: &PublishProperties) -> usize
+    ensures { result ≡ min (rare_length properties.now) greatest }
 {
-    let numbers = byte_size(properties.payload_format_indicator)
-        + u32_size(properties.message_expiry_interval)
-        + u16_size(properties.topic_alias);
+    let numbers = byte_size(properties.payload_format_indicator) + u16_size(properties.topic_alias);
     let texts = text_size(&properties.content_type)
         + text_size(&properties.response_topic)
         + binary_size(&properties.correlation_data);

@@ -1,6 +1,6 @@
 //! Writers of the properties of each packet, in rising order of their identifiers (section 2.2.2).
 
-ghost use Rattle.std.specs.Prelude.{◌<◌, ◌^◌, ◌∷◌, [], length, IfSome};
+ghost use Rattle.std.specs.Prelude.{◌≡◌, ◌<◌, ◌^◌, ◌∷◌, [], length, IfSome};
 ghost use Rattle.mqtt_fields.specs.Buffers.{HasRoom, Appends};
 ghost use Rattle.mqtt_fields.specs.Forms.{u16_bytes, u32_bytes, variable_byte_integer};
 ghost use Rattle.mqtt_fields.specs.Sections.{pair_bytes, properties, IsPair};
@@ -9,14 +9,14 @@ ghost use Rattle.mqtt_fields.specs.PropertyLists.{bytes_if, user_bytes, authenti
 
 use crate::field_writing::{put_byte, put_text, put_u16, put_u32, put_variable_byte_integer};
 use crate::property_sizes::{
-    connect_list_size, publish_properties_size, subscribe_list_size, unsubscribe_list_size,
+    connect_list_size, publish_list_size, subscribe_list_size, unsubscribe_list_size,
 };
 use crate::single_properties::{
     put_binary_if, put_byte_if, put_flag_if, put_text_if, put_u16_if, put_u32_if,
 };
 use mqtt_packet::{
     Authentication, ConnectProperties, DisconnectProperties, MaximumPacketSize, PubackProperties,
-    PublishProperties, RareProperties, ReceiveMaximum, SubscribeProperties, SubscriptionIdentifier,
+    Publish, PublishProperties, ReceiveMaximum, SubscribeProperties, SubscriptionIdentifier,
     UnsubscribeProperties, UserProperty,
 };
 
@@ -76,16 +76,14 @@ pub fn put_connect_properties(out: &mut Vec<u8>, list: &ConnectProperties)
 }
 
 /// Writes the section of a PUBLISH (section 3.3.2.3).
-pub fn put_publish_properties(out: &mut Vec<u8>, list: &RareProperties)
-    requires size { length (publish_list list.now) < 268435456 }
-    requires room { HasRoom out.old (properties (publish_list list.now)) }
-    ensures appended { Appends out.old (properties (publish_list list.now)) out.new }
-    ensures fits { PublishFits list.now }
+pub fn put_publish_properties(out: &mut Vec<u8>, publish: &Publish)
+    requires size { length (publish_list publish.now) < 268435456 }
+    requires room { HasRoom out.old (properties (publish_list publish.now)) }
+    ensures appended { Appends out.old (properties (publish_list publish.now)) out.new }
+    ensures fits { PublishFits publish.now }
 {
-    put_variable_byte_integer(out, 3, publish_properties_size(list) as u32);
-    if let Some(properties) = list.get() {
-        put_publish_list(out, properties);
-    }
+    put_variable_byte_integer(out, 3, publish_list_size(publish) as u32);
+    put_publish_list(out, publish);
 }
 
 /// Writes the section of a SUBSCRIBE (section 3.8.2.1).
@@ -139,10 +137,30 @@ fn put_connect_list(out: &mut Vec<u8>, properties: &ConnectProperties)
 }
 
 /// Writes those of a PUBLISH.
-fn put_publish_list(out: &mut Vec<u8>, properties: &PublishProperties)
-    requires { HasRoom out.old (publish_list properties.now) }
-    ensures appended { Appends out.old (publish_list properties.now) out.new }
-    ensures fits { PublishFits properties.now }
+fn put_publish_list(out: &mut Vec<u8>, publish: &Publish)
+    requires { HasRoom out.old (publish_list publish.now) }
+    ensures appended { Appends out.old (publish_list publish.now) out.new }
+    ensures fits { PublishFits publish.now }
+{
+    match publish.properties.get() {
+        Some(properties) => put_full_publish_list(out, publish, properties),
+        None => {
+            put_u32_if(
+                out,
+                MESSAGE_EXPIRY_INTERVAL,
+                publish.message_expiry_interval,
+            );
+            put_subscription_identifier(out, publish.subscription_identifier);
+        }
+    }
+}
+
+/// Writes those of a PUBLISH that has properties which stand apart from it.
+fn put_full_publish_list(out: &mut Vec<u8>, publish: &Publish, properties: &PublishProperties)
+    requires apart { properties.now ≡ publish.now.properties }
+    requires room { HasRoom out.old (publish_list publish.now) }
+    ensures appended { Appends out.old (publish_list publish.now) out.new }
+    ensures fits { PublishFits publish.now }
 {
     put_byte_if(
         out,
@@ -152,11 +170,12 @@ fn put_publish_list(out: &mut Vec<u8>, properties: &PublishProperties)
     put_u32_if(
         out,
         MESSAGE_EXPIRY_INTERVAL,
-        properties.message_expiry_interval,
+        publish.message_expiry_interval,
     );
     put_text_if(out, CONTENT_TYPE, &properties.content_type);
     put_text_if(out, RESPONSE_TOPIC, &properties.response_topic);
     put_binary_if(out, CORRELATION_DATA, &properties.correlation_data);
+    put_subscription_identifier(out, publish.subscription_identifier);
     put_u16_if(out, TOPIC_ALIAS, properties.topic_alias);
     put_user_properties(out, properties.user_properties.as_slice());
 }

@@ -1,20 +1,25 @@
-use Rattle.std.proofs.Common.{◌≡◌, ◌+◌, length, arith}
-use Rattle.std.specs.Prelude.{min}
-use Rattle.mqtt_fields.specs.declared.property.Property.TheVariants.{ContentType, CorrelationData, MessageExpiryInterval, PayloadFormatIndicator, ResponseTopic, TopicAlias}
-use Rattle.mqtt_fields.specs.PropertyLists.{optional, user_bytes, publish_list}
-use Rattle.mqtt_fields.specs.Sizes.{greatest}
-use Rattle.mqtt_fields.proofs.PropertySizeLaws.{saturated, publish_length}
+use Rattle.std.proofs.Common.{◌≡◌, ◌+◌, ◌≤◌, length, sym, ap, ◌∙◌, arith}
+use Rattle.mqtt_fields.specs.declared.property.Property.TheVariants.{MessageExpiryInterval, SubscriptionIdentifier}
+use Rattle.mqtt_fields.specs.PropertyLists.{optional, publish_list}
+use Rattle.mqtt_fields.specs.Sizes.{greatest, rare_length}
+use Rattle.mqtt_fields.proofs.PropertySizeLaws.{saturated, whole, publish_length}
 use Rattle.mqtt_fields.proofs.property_sizes.publish_list_size.Goals as goal
 
-pub returns : goal.returns
-returns c =
-    let p = c.args.properties.now in
-    let format : c.byte_size.result ≡ length (optional PayloadFormatIndicator p.payload_format_indicator) = c.byte_size.ensures.value 0x01 in
+pub returns-in-Some : goal.returns-in-Some
+returns-in-Some c =
+    let p = c.args.publish.now in
     let expiry : c.u32_size.result ≡ length (optional MessageExpiryInterval p.message_expiry_interval) = c.u32_size.ensures.value 0x02 in
-    let alias : c.u16_size.result ≡ length (optional TopicAlias p.topic_alias) = c.u16_size.ensures.value 0x23 in
-    let content : c.text_size.result ≡ length (optional ContentType p.content_type) = c.text_size.ensures.value 0x03 in
-    let response : c.text_size-2.result ≡ length (optional ResponseTopic p.response_topic) = c.text_size-2.ensures.value 0x08 in
-    let correlation : c.binary_size.result ≡ length (optional CorrelationData p.correlation_data) = c.binary_size.ensures.value 0x09 in
-    let users : c.user_properties_size.result ≡ min (length (user_bytes p.user_properties)) greatest = rw (← c.as_slice.ensures) c.user_properties_size.ensures in
-    saturated c.saturating_add.result c.user_properties_size.result (c.byte_size.result + c.u32_size.result + c.u16_size.result + (c.text_size.result + c.text_size-2.result + c.binary_size.result)) (length (user_bytes p.user_properties)) (length (publish_list p)) c.saturating_add.ensures users
-    (omega (arith, publish_length p, format, expiry, alias, content, response, correlation))
+    let identifier : c.subscription_identifier_size.result ≡ length (optional SubscriptionIdentifier p.subscription_identifier) = c.subscription_identifier_size.ensures.value in
+    let apart : rare_length c.in-Some.properties.now ≡ rare_length p.properties = ap rare_length c.in-Some.ensures in
+    saturated c.saturating_add.result c.rare_size.result (c.u32_size.result + c.subscription_identifier_size.result) (rare_length c.in-Some.properties.now) (length (publish_list p)) c.saturating_add.ensures c.rare_size.ensures
+    (omega (arith, publish_length p, expiry, identifier, apart))
+
+pub returns-in-None : goal.returns-in-None
+returns-in-None c =
+    let p = c.args.publish.now in
+    let expiry : c.u32_size.result ≡ length (optional MessageExpiryInterval p.message_expiry_interval) = c.u32_size.ensures.value 0x02 in
+    let identifier : c.subscription_identifier_size.result ≡ length (optional SubscriptionIdentifier p.subscription_identifier) = c.subscription_identifier_size.ensures.value in
+    let apart : rare_length p.properties ≡ 0 = ap rare_length c.in-None.ensures in
+    let all : length (publish_list p) ≡ c.u32_size.result + c.subscription_identifier_size.result = omega (arith, publish_length p, expiry, identifier, apart) in
+    let small : length (publish_list p) ≤ greatest = omega (arith, all, c.u32_size.ensures.small, c.subscription_identifier_size.ensures.small) in
+    sym all ∙ whole (length (publish_list p)) small
