@@ -108,8 +108,7 @@ module _ {S P : Type 0} (call : S → SupplyCall P → S → Type 0) (AreAlike :
   subscribed_as (Some code) a a' b b' terms old was subscribe r u m n s t alike h k =
       (h.0 ∙ sym k.0, h.1 ∙ sym k.1, h.2 ∙ sym k.2, calls.still call AreAlike answers a a' b b' alike h.3 k.3)
   subscribed_as None a a' b b' terms old was subscribe r u m n s t alike h k =
-      let one = entries_answered subscribe.subscriptions a a' b b' terms old h.0 k.0 m n alike h.2 k.2 in
-      (
+      let one = entries_answered subscribe.subscriptions a a' b b' terms old h.0 k.0 m n alike h.2 k.2 in (
         h.1 ∙ ap (λ codes. going_on (Some (suback subscribe.packet_identifier codes))) one.0 ∙ sym k.1,
         one.1,
         h.3 ∙ ap (λ codes. subscription_after codes subscribe.properties.subscription_identifier was) one.0 ∙ sym k.3,

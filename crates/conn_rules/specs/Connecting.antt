@@ -1,5 +1,5 @@
 -- What a client asks for when it connects, and the answer to the first packet (sections 3.1 and 3.2).
-use Rattle.std.specs.Prelude.{ℕ, ◌==◌, ◌&&◌, nat_lt, min, Bool, false, not, if◌then◌else◌, length, Option, Some, None, is_some}
+use Rattle.std.specs.Prelude.{ℕ, ◌==◌, ◌&&◌, nat_lt, min, Bool, true, false, not, if◌then◌else◌, length, Option, Some, None, is_some}
 use Rattle.mqtt_packet.specs.declared.offer.Offer.{Offer}
 use Rattle.mqtt_packet.specs.declared.packet.QoS.TheVariants.{AtLeastOnce}
 use Rattle.mqtt_packet.specs.declared.packet.Connect.{Connect}

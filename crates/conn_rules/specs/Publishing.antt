@@ -23,7 +23,7 @@ closing_code publish =
 abbrev pub identified_answer : Option ℕ → ℕ → Publish → PublishAnswer
 identified_answer (Some code) identifier publish = Close code
 identified_answer None identifier publish =
-    if is_some publish.properties.message_expiry_interval then Refuse identifier 0x83 else Offer identifier
+    if is_some publish.message_expiry_interval then Refuse identifier 0x83 else Offer identifier
 
 -- 3.3.4: a PUBLISH of QoS 1 is acknowledged; QoS 2 is not supported (3.2.2.3.4), and QoS 0 is not served (profile)
 abbrev pub delivery_answer : Delivery → Publish → PublishAnswer
@@ -38,9 +38,9 @@ publish_answer publish = delivery_answer publish.delivery publish
 abbrev pub puback_code : ℕ → ℕ → ℕ
 puback_code matched taken = if matched == 0 then 0x10 else (if nat_lt taken matched then 0x97 else 0)
 
--- of the properties of a PUBLISH, those that go with its message: all but how long it lasts and the alias of its topic (3.3.2.3)
+-- of the properties of a PUBLISH, those that go with its message: all but the alias of its topic (3.3.2.3)
 abbrev pub forwarded : PublishProperties → PublishProperties
-forwarded properties = record properties { message_expiry_interval = None; topic_alias = None }
+forwarded properties = record properties { topic_alias = None }
 
 -- the message of a PUBLISH: its topic, the properties that go with it, and its payload (3.3.2.3)
 abbrev pub message_of : Publish → Message

@@ -62,7 +62,7 @@ pub fn job(
 /// The message of a PUBLISH that is offered to groups: its topic, its properties, and its payload (section 3.3.2.3). Such a PUBLISH has only
 /// properties that go with its message.
 pub fn message_of(publish: Publish) -> Message
-    requires lasting { publish.properties.message_expiry_interval ≡ None }
+    requires lasting { publish.message_expiry_interval ≡ None }
     requires named { publish.properties.topic_alias ≡ None }
     ensures { result ≡ message_of publish }
 {

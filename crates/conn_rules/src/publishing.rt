@@ -34,7 +34,7 @@ fn answer_under(identifier: PacketIdentifier, publish: &Publish) -> PublishAnswe
 {
     match closing_code(publish) {
         Some(code) => PublishAnswer::Close(code),
-        None if expires(publish) => {
+        None if publish.message_expiry_interval.is_some() => {
             PublishAnswer::Refuse(identifier, ReasonCode::IMPLEMENTATION_SPECIFIC_ERROR)
         }
         None => PublishAnswer::Offer(identifier),
@@ -59,16 +59,6 @@ pub fn closing_code(publish: &Publish) -> Option<ReasonCode>
         return Some(ReasonCode::MALFORMED_PACKET);
     }
     None
-}
-
-/// Whether it expires (section 3.3.2.3.3).
-fn expires(publish: &Publish) -> bool
-    ensures { result ≡ is_some publish.now.properties.message_expiry_interval }
-{
-    match publish.properties.get() {
-        Some(properties) => properties.message_expiry_interval.is_some(),
-        None => false,
-    }
 }
 
 /// Whether it has a Topic Alias (section 3.3.2.3.4).

@@ -24,21 +24,21 @@ offered_if false identifier wanted is = refl
 
 -- no code closes the connection, and the message does not expire
 plain_under : (code : Option ℕ) (identifier wanted : ℕ) (publish : Publish) → identified_answer code identifier publish ≡ Offer wanted
-    → (code ≡ None) × (is_some publish.properties.message_expiry_interval ≡ false)
+    → (code ≡ None) × (is_some publish.message_expiry_interval ≡ false)
 plain_under (Some code) identifier wanted publish is = grind arith
-plain_under None identifier wanted publish is = (refl, offered_if (is_some publish.properties.message_expiry_interval) identifier wanted is)
+plain_under None identifier wanted publish is = (refl, offered_if (is_some publish.message_expiry_interval) identifier wanted is)
 
 plain_for : (delivery : Delivery) (wanted : ℕ) (publish : Publish) → delivery_answer delivery publish ≡ Offer wanted
-    → (publish.properties.message_expiry_interval ≡ None) × (publish.properties.topic_alias ≡ None)
+    → (publish.message_expiry_interval ≡ None) × (publish.properties.topic_alias ≡ None)
 plain_for AtMostOnce wanted publish is = grind arith
 plain_for (ExactlyOnce identifier) wanted publish is = grind arith
 plain_for (AtLeastOnce identifier) wanted publish is =
     let plain = plain_under (closing_code publish) identifier wanted publish is in (
-      absent publish.properties.message_expiry_interval plain.1,
+      absent publish.message_expiry_interval plain.1,
       absent publish.properties.topic_alias (no_alias_if publish.retain (is_some publish.properties.topic_alias) _ plain.0),
     )
 
-pub offered_lasts : (wanted : ℕ) (publish : Publish) → publish_answer publish ≡ Offer wanted → publish.properties.message_expiry_interval ≡ None
+pub offered_lasts : (wanted : ℕ) (publish : Publish) → publish_answer publish ≡ Offer wanted → publish.message_expiry_interval ≡ None
 offered_lasts wanted publish is = (plain_for publish.delivery wanted publish is).0
 
 pub offered_has_no_alias : (wanted : ℕ) (publish : Publish) → publish_answer publish ≡ Offer wanted → publish.properties.topic_alias ≡ None

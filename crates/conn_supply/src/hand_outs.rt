@@ -1,7 +1,7 @@
 //! What is handed out after the reply (sections 4.4, 4.6, 4.8.2 and 4.9).
 ghost use Rattle.std.specs.Prelude.{◌≡◌, ◌<◌, ◌∷◌, ◌++◌, [], true, false, ℕ, List, Some, None, Ok, OnOk, OnErr, IfOk, MatchOption, MatchResult};
 ghost use Rattle.mqtt_packet.specs.declared.packet.Packet.{Packet};
-ghost use Rattle.group_jobs.specs.Stamps.{Held};
+ghost use Rattle.group_jobs.specs.Stamps.{Held, under};
 ghost use Rattle.member_window.specs.Identifiers.{identifiers, IsLeastFree};
 ghost use Rattle.member_window.specs.Contents.{held_of, HasRoom, IsNextResend, after_put, after_resend};
 ghost use Rattle.conn_rules.specs.Packets.{job};
@@ -48,7 +48,13 @@ pub fn hand_out<P: HoldingPlace, S: Supply<P>>(
     }
     match membership {
         Membership::NotMember => Ok(()),
-        Membership::Member(place) => match send_fresh(supply, place, subscription, window, packets) {
+        Membership::Member(place) => match send_fresh(
+            supply,
+            place,
+            &subscription,
+            window,
+            packets,
+        ) {
             Ok(()) => Ok(()),
             Err(NoMemory) => Err(NoMemory),
         },
@@ -116,15 +122,15 @@ fn identifier_of(number: u16) -> PacketIdentifier
 fn send_fresh<P: HoldingPlace, S: Supply<P>>(
     supply: &mut S,
     place: &mut P,
-    subscription: Option<SubscriptionIdentifier>,
+    subscription: &Option<SubscriptionIdentifier>,
     window: &mut Window<Envelope>,
     packets: &mut Vec<Packet>,
 ) -> Result<(), NoMemory>
     requires out { P.has_out place.old (messages window.old) }
     requires visiting { S.visiting supply.old ≡ true }
     ensures sent { OnOk result ((sent : List Packet) × (packets.new.items ≡ packets.old.items ++ sent)
-        × SendsFresh S.call subscription supply.old place.old window.old sent place.new window.new supply.new) }
-    ensures kept { OnErr result ((taken : List Held) × TakesSome S.call subscription supply.old place.old window.old taken place.new window.new supply.new) }
+        × SendsFresh S.call subscription.now supply.old place.old window.old sent place.new window.new supply.new) }
+    ensures kept { OnErr result ((taken : List Held) × TakesSome S.call subscription.now supply.old place.old window.old taken place.new window.new supply.new) }
     ensures sound { window.new.retired ≡ window.old.retired }
     ensures out { P.has_out place.new (messages window.new) }
     ensures visiting { S.visiting supply.new ≡ S.visiting supply.old }
@@ -144,15 +150,15 @@ fn send_fresh<P: HoldingPlace, S: Supply<P>>(
 fn next_fresh<P: HoldingPlace, S: Supply<P>>(
     supply: &mut S,
     place: &mut P,
-    subscription: Option<SubscriptionIdentifier>,
+    subscription: &Option<SubscriptionIdentifier>,
     window: &mut Window<Envelope>,
 ) -> Result<Option<Packet>, NoMemory>
     requires out { P.has_out place.old (messages window.old) }
     requires visiting { S.visiting supply.old ≡ true }
     ensures sent { IfOk result (λ sent. MatchOption sent
         (SendsNone S.call supply.old place.old window.old place.new window.new supply.new)
-        (λ packet. SendsOne S.call subscription supply.old place.old window.old packet place.new window.new supply.new × HoldsMore window.old window.new)) }
-    ensures kept { OnErr result ((taken : List Held) × TakesSome S.call subscription supply.old place.old window.old taken place.new window.new supply.new) }
+        (λ packet. SendsOne S.call subscription.now supply.old place.old window.old packet place.new window.new supply.new × HoldsMore window.old window.new)) }
+    ensures kept { OnErr result ((taken : List Held) × TakesSome S.call subscription.now supply.old place.old window.old taken place.new window.new supply.new) }
     ensures sound { window.new.retired ≡ window.old.retired }
     ensures out { P.has_out place.new (messages window.new) }
     ensures visiting { S.visiting supply.new ≡ S.visiting supply.old }
@@ -164,7 +170,7 @@ fn next_fresh<P: HoldingPlace, S: Supply<P>>(
         return Ok(None);
     }
     match ask(supply, place) {
-        Ok(Some(envelope)) => match put(window, envelope.under(subscription)) {
+        Ok(Some(envelope)) => match put(window, envelope, *subscription) {
             Ok(packet) => Ok(Some(packet)),
             Err(NoMemory) => Err(NoMemory),
         },
@@ -173,26 +179,24 @@ fn next_fresh<P: HoldingPlace, S: Supply<P>>(
     }
 }
 
-/// Puts a message into the window, which has room, and gives the packet in which it goes out.
-fn put(window: &mut Window<Envelope>, envelope: Envelope) -> Result<Packet, NoMemory>
+/// Puts a message into the window, which has room, and gives the packet in which it goes out under that Subscription Identifier.
+fn put(
+    window: &mut Window<Envelope>,
+    envelope: Envelope,
+    subscription: Option<SubscriptionIdentifier>,
+) -> Result<Packet, NoMemory>
     requires { HasRoom window.old }
     ensures put { (identifier : ℕ) × IsLeastFree (identifiers (held_of window.old)) identifier
-        × (window.new ≡ after_put window.old identifier envelope)
-        × IfOk result (λ packet. packet ≡ job false envelope.message envelope.subscription identifier) }
+        × (window.new ≡ after_put window.old identifier (under subscription envelope))
+        × IfOk result (λ packet. packet ≡ job false envelope.message subscription identifier) }
     ensures progress { HoldsMore window.old window.new }
     ensures sound { window.new.retired ≡ window.old.retired }
-    ensures held { messages window.new ≡ messages window.old ++ envelope ∷ [] }
+    ensures held { messages window.new ≡ messages window.old ++ under subscription envelope ∷ [] }
 {
     let _held = window.len();
     let shared = envelope.message().share();
-    let subscription = envelope.subscription();
-    match window.put(envelope) {
-        Ok(identifier) => Ok(job(
-            false,
-            &*shared?,
-            subscription,
-            identifier_of(identifier),
-        )?),
+    match window.put(envelope.under(subscription)) {
+        Ok(identifier) => Ok(job(false, &*shared?, subscription, identifier_of(identifier))?),
         Err(_back) => unreachable!(),
     }
 }

@@ -4,7 +4,7 @@ ghost use Rattle.std.specs.List.{list_any};
 ghost use Rattle.mqtt_topic.specs.Names.{share_of};
 ghost use Rattle.conn_supply.specs.SupplyCalls.SupplyCall.{Find};
 ghost use Rattle.conn_supply.specs.Holding.{StayOut};
-ghost use Rattle.conn_supply.specs.Subscribing.{IsLent, EntersAs, Joins, AnswersEntry, AnswersEntries, AnswersFirst, AnswersSome, IsUnbound, Subscribes, LeavesBy, LeavesByAll, Unsubscribes};
+ghost use Rattle.conn_supply.specs.Subscribing.{IsLent, EntersAs, Joins, AnswersEntry, AnswersEntries, AnswersFirst, AnswersSome, IsUnbound, Subscribes, subscription_after, LeavesBy, LeavesByAll, Unsubscribes};
 ghost use Rattle.session_desk.specs.declared.session.Membership.TheVariants.{NotMember};
 ghost use Rattle.conn_rules.specs.Packets.{suback, unsuback};
 ghost use Rattle.conn_supply.specs.Replies.{going_on};
@@ -47,18 +47,20 @@ pub fn subscribe<P: HoldingPlace, S: Supply<P>>(
     if let Some(code) = subscribe_refusal(&subscribe) {
         return (membership, Ok(Reply::closing_with(alloc, code)));
     }
-    let asked = subscribe.properties.subscription_identifier;
-    let identifier = subscribe.packet_identifier;
-    let entries = subscribe.subscriptions.into_vec();
+    let Subscribe {
+        packet_identifier,
+        properties,
+        subscriptions,
+    } = subscribe;
+    let asked = properties.subscription_identifier;
+    let entries = subscriptions.into_vec();
     let Ok(mut codes) = Vec::with_capacity(alloc, entries.len()) else {
         return (membership, Err(NoMemory));
     };
     match answer_entries(supply, membership, terms, entries.into_iter(), &mut codes) {
         (membership, Ok(())) => {
-            if has_granted(&codes) {
-                *subscription = asked;
-            }
-            (membership, Ok(granted(identifier, codes)))
+            let reply = granted(subscription, asked, packet_identifier, codes);
+            (membership, Ok(reply))
         }
         (membership, Err(NoMemory)) => (membership, Err(NoMemory)),
     }
@@ -71,11 +73,20 @@ fn has_granted(codes: &[ReasonCode]) -> bool
     codes.iter().any(|code| *code == ReasonCode::GRANTED_QOS_1)
 }
 
-/// The SUBACK with these codes.
-fn granted(identifier: PacketIdentifier, codes: Vec<ReasonCode>) -> Reply
+/// The SUBACK with these codes. Where one of them grants a subscription, the session has the Subscription Identifier that was asked for.
+fn granted(
+    subscription: &mut Option<SubscriptionIdentifier>,
+    asked: Option<SubscriptionIdentifier>,
+    identifier: PacketIdentifier,
+    codes: Vec<ReasonCode>,
+) -> Reply
     requires { 0 < length codes.items }
-    ensures { result ≡ going_on (Some (suback identifier codes.items)) }
+    ensures reply { result ≡ going_on (Some (suback identifier codes.items)) }
+    ensures subscription { subscription.new ≡ subscription_after codes.items asked subscription.old }
 {
+    if has_granted(&codes) {
+        *subscription = asked;
+    }
     match NonEmpty::from_vec(codes) {
         Some(codes) => Reply::going_on(Some(suback(identifier, codes))),
         None => unreachable!(),

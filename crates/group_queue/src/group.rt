@@ -182,6 +182,7 @@ impl<'a, W: Witness> SharedGroup<'a, W> {
         ensures answer { GiveBackAnswers place.old envelope result place.new }
         ensures of { IsPlaceOf self.now place.new }
     {
+        let subscription = envelope.subscription();
         let (stamp, message) = envelope.open();
         let job = stamp.job();
         let posted = Posted { job, message };
@@ -190,7 +191,9 @@ impl<'a, W: Witness> SharedGroup<'a, W> {
                 place.docket.give_back(job);
                 Ok(())
             }
-            Err(posted) => Err(Envelope::new(stamp, place.number, posted.message)),
+            Err(posted) => {
+                Err(Envelope::new(stamp, place.number, posted.message).under(subscription))
+            }
         }
     }
 
