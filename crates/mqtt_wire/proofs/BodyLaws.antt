@@ -1,5 +1,5 @@
 -- Bodies: what is read is spelled so, and what is spelled so is read.
-use Rattle.std.proofs.Common.{◌≡◌, ℕ, ◌≤◌, List, ◌++◌, length, Result, Ok, refl, ap, subst, ◌∙◌, arith, length-append}
+use Rattle.std.proofs.Common.{◌≡◌, ℕ, ◌≤◌, List, ◌++◌, length, Option, None, Result, Ok, refl, sym, ap, subst, ◌∙◌, arith, length-append}
 use Rattle.std.specs.List.{flat_map}
 use Rattle.mqtt_fields.specs.declared.fault.StreamFault.{StreamFault}
 use Rattle.mqtt_packet.specs.declared.packet.QoS.{QoS}
@@ -65,13 +65,13 @@ delivery_takes qos.ExactlyOnce bytes x fits e =
     subst (λ (y : Delivery × List ℕ). Front bytes (delivery_bytes y.0) y.1 × IsDelivery y.0 × (qos_of y.0 ≡ qos.ExactlyOnce)) (ok_is (ExactlyOnce identifier.0.0, identifier.0.1) x identifier.2)
     (t.0, t.1, refl)
 
-pub publish_takes : (flags : PublishFlags) (body : List ℕ) (packet : Publish) → AreBytes body → publish_body_at flags body ≡ Ok packet → (IsText packet.topic × IsDelivery packet.delivery) × SpellsPublish packet body × (flags_of packet ≡ flags)
+pub publish_takes : (flags : PublishFlags) (body : List ℕ) (packet : Publish) → AreBytes body → publish_body_at flags body ≡ Ok packet → IsFromClient (packets.Publish packet) × SpellsPublish packet body × (flags_of packet ≡ flags)
 unfolding publish_body_at
 publish_takes flags body packet fits e =
     let topic = bind_ok (text_at body) _ packet e in
     let delivery = bind_ok (delivery_at flags.qos topic.0.1) _ packet topic.2 in
     let all = bind_ok (properties_at sections.Publish delivery.0.1) _ packet delivery.2 in
-    let made : Publish = record { dup = flags.dup; retain = flags.retain; topic = topic.0.0; delivery = delivery.0.0; properties = publish_of all.0.0; payload = all.0.1 } in
+    let made : Publish = record { dup = flags.dup; retain = flags.retain; delivery = delivery.0.0; message_expiry_interval = all.0.0.message_expiry_interval; subscription_identifier = None; topic = topic.0.0; properties = publish_of all.0.0; payload = all.0.1 } in
     let t1 = text_takes body topic.0 fits topic.1 in
     let t2 = delivery_takes flags.qos topic.0.1 delivery.0 t1.0.rest_fits delivery.1 in
     let t3 = properties_take sections.Publish delivery.0.1 all.0 t2.0.rest_fits all.1 in
@@ -79,12 +79,16 @@ publish_takes flags body packet fits e =
       all = all.0.0;
       section = t3.text;
       spelled = t3.spelled;
+      expiry_is = refl;
       properties_are = refl;
       parts = t1.0.parts ∙ ap (λ (r : List ℕ). utf8_string topic.0.0 ++ r) (t2.0.parts ∙ ap (λ (r : List ℕ). delivery_bytes delivery.0.0 ++ r) t3.front.parts);
     } in
     let same_flags : flags_of made ≡ flags = ap (λ (q : QoS). record flags { qos = q }) t2.2 in
-    subst (λ (p : Publish). (IsText p.topic × IsDelivery p.delivery) × SpellsPublish p body × (flags_of p ≡ flags)) (ok_is made packet all.2)
-    ((t1.1, t2.1), spelled, same_flags)
+    subst (λ (p : Publish). IsFromClient (packets.Publish p) × SpellsPublish p body × (flags_of p ≡ flags)) (ok_is made packet all.2)
+    ((t1.1, t2.1, refl), spelled, same_flags)
+
+abbrev published : Publish → Result Publish StreamFault
+published packet = Ok packet
 
 delivery_again : (delivery : Delivery) (rest : List ℕ) → IsDelivery delivery → delivery_at (qos_of delivery) (delivery_bytes delivery ++ rest) ≡ Ok (delivery, rest)
 unfolding delivery_at
@@ -92,12 +96,13 @@ delivery_again AtMostOnce rest is = refl
 delivery_again (AtLeastOnce identifier) rest is = rw (identifier_again identifier rest is.0) refl
 delivery_again (ExactlyOnce identifier) rest is = rw (identifier_again identifier rest is.0) refl
 
-pub publish_again : (packet : Publish) (body : List ℕ) → IsText packet.topic → IsDelivery packet.delivery → length body ≤ 65536 → SpellsPublish packet body → publish_body_at (flags_of packet) body ≡ Ok packet
+pub publish_again : (packet : Publish) (body : List ℕ) → IsFromClient (packets.Publish packet) → length body ≤ 65536 → SpellsPublish packet body → publish_body_at (flags_of packet) body ≡ Ok packet
 unfolding publish_body_at
-publish_again packet body text delivery small s =
+publish_again packet body client small s =
     let inner : length s.section ≤ 65536 = omega (arith, ap length s.parts, length-append (utf8_string packet.topic) (delivery_bytes packet.delivery ++ (s.section ++ packet.payload)), length-append (delivery_bytes packet.delivery) (s.section ++ packet.payload), length-append s.section packet.payload) in
     ap (publish_body_at (flags_of packet)) s.parts
-    ∙ rw (text_again packet.topic (delivery_bytes packet.delivery ++ (s.section ++ packet.payload)) text, delivery_again packet.delivery (s.section ++ packet.payload) delivery, properties_again sections.Publish s.all s.section packet.payload s.spelled inner, s.properties_are) refl
+    ∙ rw (text_again packet.topic (delivery_bytes packet.delivery ++ (s.section ++ packet.payload)) client.0, delivery_again packet.delivery (s.section ++ packet.payload) client.1, properties_again sections.Publish s.all s.section packet.payload s.spelled inner, s.expiry_is, s.properties_are) refl
+    ∙ ap (λ (identifier : Option ℕ). published (record packet { subscription_identifier = identifier })) (sym client.2)
 
 -- ---- PUBACK and DISCONNECT
 
@@ -241,7 +246,7 @@ body_again (packets.Connect c) body small client spelled =
     record { kind = kinds.Connect; byte = refl; read = connect_again c body client small spelled }
 body_again (packets.Connack c) body small client spelled = absurd client
 body_again (packets.Publish p) body small client spelled =
-    record { kind = kinds.Publish (flags_of p); byte = refl; read = rw (publish_again p body client.0 client.1 small spelled) refl }
+    record { kind = kinds.Publish (flags_of p); byte = refl; read = rw (publish_again p body client small spelled) refl }
 body_again (packets.Puback p) body small client spelled =
     record { kind = kinds.Puback; byte = refl; read = rw (puback_again p body client small spelled) refl }
 body_again (packets.Subscribe s) body small client spelled =

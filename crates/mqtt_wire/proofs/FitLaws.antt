@@ -9,13 +9,14 @@ use Rattle.mqtt_fields.specs.declared.properties.Properties.{Properties}
 use Rattle.mqtt_packet.specs.declared.user_properties.UserProperty.{UserProperty as Pair}
 use Rattle.mqtt_packet.specs.declared.packet_properties.Authentication.{Authentication}
 use Rattle.mqtt_packet.specs.declared.packet_properties.ConnectProperties.{ConnectProperties}
+use Rattle.mqtt_packet.specs.declared.packet.Publish.{Publish}
 use Rattle.mqtt_packet.specs.declared.packet.Packet.{Packet}
 use Rattle.mqtt_packet.specs.declared.packet.Packet.TheVariants as packets
 use Rattle.mqtt_fields.specs.Properties.{nothing, with_property}
 use Rattle.mqtt_fields.specs.Sections.{IsPair, IsProperty, AddUp, SpellsProperties}
 use Rattle.mqtt_fields.specs.PropertyLists.{authentication_of, connect_with, connect_from, connect_of, publish_of, puback_of, subscribe_of, unsubscribe_of, disconnect_of}
 use Rattle.mqtt_fields.specs.FieldRanges.{Fits, ArePairs, AuthenticationFits, ConnectFits, PublishFits, PubackFits, SubscribeFits, UnsubscribeFits, DisconnectFits}
-use Rattle.mqtt_wire.specs.Ranges.{PropertiesFit}
+use Rattle.mqtt_wire.specs.Ranges.{IsFromClient, PropertiesFit}
 use Rattle.mqtt_wire.specs.Spelling.{SpellsReason, SpellsBody}
 
 -- each property that is there is in its range
@@ -127,15 +128,16 @@ connect_fits all p fits e =
     connect_from_fits all (authentication_of all.authentication_method all.authentication_data) p fits
     (λ authentication. authentication_fits all.authentication_method all.authentication_data authentication fits.authentication_method fits.authentication_data) e
 
-publish_fits : (all : Properties) → AllFit all → PublishFits (publish_of all)
-publish_fits all fits = record {
-  payload_format_indicator = fits.payload_format_indicator;
-  message_expiry_interval = fits.message_expiry_interval;
-  content_type = fits.content_type;
-  response_topic = fits.response_topic;
-  correlation_data = fits.correlation_data;
-  topic_alias = fits.topic_alias;
-  user_properties = fits.user_properties;
+publish_fits : (all : Properties) (p : Publish) → AllFit all → publish_of all ≡ p.properties → all.message_expiry_interval ≡ p.message_expiry_interval → p.subscription_identifier ≡ None → PublishFits p
+publish_fits all p fits properties expiry none = record {
+  payload_format_indicator = rw (← properties) fits.payload_format_indicator;
+  message_expiry_interval = rw (← expiry) fits.message_expiry_interval;
+  content_type = rw (← properties) fits.content_type;
+  response_topic = rw (← properties) fits.response_topic;
+  correlation_data = rw (← properties) fits.correlation_data;
+  subscription_identifier = rw none tt;
+  topic_alias = rw (← properties) fits.topic_alias;
+  user_properties = rw (← properties) fits.user_properties;
 }
 
 puback_fits : (all : Properties) → AllFit all → PubackFits (puback_of all)
@@ -151,18 +153,18 @@ disconnect_fits : (all : Properties) → AllFit all → DisconnectFits (disconne
 disconnect_fits all fits = record { session_expiry_interval = fits.session_expiry_interval; reason_string = fits.reason_string; user_properties = fits.user_properties }
 
 -- the properties of a packet that is spelled are in their ranges
-pub spelled_fits : (packet : Packet) (body : List ℕ) → SpellsBody packet body → PropertiesFit packet
-spelled_fits (packets.Connect c) body s = connect_fits s.all c.properties (section_fits sections.Connect s.all s.section s.spelled) s.properties_are
-spelled_fits (packets.Connack c) body s = absurd s
-spelled_fits (packets.Publish p) body s = subst PublishFits s.properties_are (publish_fits s.all (section_fits sections.Publish s.all s.section s.spelled))
-spelled_fits (packets.Puback p) body s = subst PubackFits s.properties_are (puback_fits s.all (reason_fits sections.Puback p.reason_code s.all s.reason s.spelled))
-spelled_fits (packets.Subscribe p) body s = subst SubscribeFits s.properties_are (subscribe_fits s.all (section_fits sections.Subscribe s.all s.section s.spelled))
-spelled_fits (packets.Suback p) body s = absurd s
-spelled_fits (packets.Unsubscribe p) body s = subst UnsubscribeFits s.properties_are (unsubscribe_fits s.all (section_fits sections.Unsubscribe s.all s.section s.spelled))
-spelled_fits (packets.Unsuback p) body s = absurd s
-spelled_fits packets.Pingreq body s = tt
-spelled_fits packets.Pingresp body s = absurd s
-spelled_fits (packets.Disconnect d) body s = subst DisconnectFits s.properties_are (disconnect_fits s.all (reason_fits sections.Disconnect d.reason_code s.all body s.spelled))
-spelled_fits (packets.Foreign kind) body s = tt
-spelled_fits (packets.OtherVersion version) body s = tt
-spelled_fits packets.WithWill body s = tt
+pub spelled_fits : (packet : Packet) (body : List ℕ) → IsFromClient packet → SpellsBody packet body → PropertiesFit packet
+spelled_fits (packets.Connect c) body client s = connect_fits s.all c.properties (section_fits sections.Connect s.all s.section s.spelled) s.properties_are
+spelled_fits (packets.Connack c) body client s = absurd s
+spelled_fits (packets.Publish p) body client s = publish_fits s.all p (section_fits sections.Publish s.all s.section s.spelled) s.properties_are s.expiry_is client.2
+spelled_fits (packets.Puback p) body client s = subst PubackFits s.properties_are (puback_fits s.all (reason_fits sections.Puback p.reason_code s.all s.reason s.spelled))
+spelled_fits (packets.Subscribe p) body client s = subst SubscribeFits s.properties_are (subscribe_fits s.all (section_fits sections.Subscribe s.all s.section s.spelled))
+spelled_fits (packets.Suback p) body client s = absurd s
+spelled_fits (packets.Unsubscribe p) body client s = subst UnsubscribeFits s.properties_are (unsubscribe_fits s.all (section_fits sections.Unsubscribe s.all s.section s.spelled))
+spelled_fits (packets.Unsuback p) body client s = absurd s
+spelled_fits packets.Pingreq body client s = tt
+spelled_fits packets.Pingresp body client s = absurd s
+spelled_fits (packets.Disconnect d) body client s = subst DisconnectFits s.properties_are (disconnect_fits s.all (reason_fits sections.Disconnect d.reason_code s.all body s.spelled))
+spelled_fits (packets.Foreign kind) body client s = tt
+spelled_fits (packets.OtherVersion version) body client s = tt
+spelled_fits packets.WithWill body client s = tt

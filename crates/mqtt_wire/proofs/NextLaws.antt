@@ -100,7 +100,7 @@ frame_spells frame packet small fits e =
     let b = body_takes frame.kind frame.body packet fits e in
     record {
       client = b.client;
-      fits = spelled_fits packet frame.body b.spelled;
+      fits = spelled_fits packet frame.body b.client b.spelled;
       body = frame.body;
       spelled = b.spelled;
       parts = ap (λ (first : ℕ). framed first frame.body) (sym b.byte);

@@ -219,12 +219,13 @@ connect_spells c fits = record {
   parts = refl;
 }
 
-publish_spells : (p : Publish) → PublishFits p.properties → SpellsPublish p (publish_body p)
-publish_spells p fits = record {
-  all = all_of_publish p.properties;
-  section = properties (publish_list p.properties);
-  spelled = spelled sections.Publish (publish_list p.properties) (all_of_publish p.properties) (publish_gathered p.properties fits);
-  properties_are = publish_back p.properties;
+publish_spells : (p : Publish) → p.subscription_identifier ≡ None → PublishFits p → SpellsPublish p (publish_body p)
+publish_spells p none fits = record {
+  all = all_of_publish p;
+  section = properties (publish_list p);
+  spelled = spelled sections.Publish (publish_list p) (all_of_publish p) (publish_gathered p none fits);
+  expiry_is = refl;
+  properties_are = publish_back p;
   parts = refl;
 }
 
@@ -265,7 +266,7 @@ disconnect_spells d fits = record {
 written_body_spells : (packet : Packet) → IsFromClient packet → PropertiesFit packet → SpellsBody packet (written_body packet)
 written_body_spells (packets.Connect c) client fits = connect_spells c fits
 written_body_spells (packets.Connack c) client fits = absurd client
-written_body_spells (packets.Publish p) client fits = publish_spells p fits
+written_body_spells (packets.Publish p) client fits = publish_spells p client.2 fits
 written_body_spells (packets.Puback p) client fits = puback_spells p fits
 written_body_spells (packets.Subscribe s) client fits = subscribe_spells s fits
 written_body_spells (packets.Suback s) client fits = absurd client

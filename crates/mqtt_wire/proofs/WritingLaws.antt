@@ -42,9 +42,9 @@ connack_size a = omega (arith, length-append (variable_byte_integer (length (con
 pub refused_size : (refusal : ConnectRefusal) → length (connack_body (Refused refusal)) ≡ 3
 refused_size refusal = omega (arith, no_properties_size)
 
-pub publish_size : (p : Publish) → length (publish_body p) ≡ 2 + length p.topic + length (delivery_bytes p.delivery) + length (properties (publish_list p.properties)) + length p.payload
+pub publish_size : (p : Publish) → length (publish_body p) ≡ 2 + length p.topic + length (delivery_bytes p.delivery) + length (properties (publish_list p)) + length p.payload
 publish_size p =
-    let section : List ℕ = properties (publish_list p.properties) in
+    let section : List ℕ = properties (publish_list p) in
     omega (arith, length-append (utf8_string p.topic) (delivery_bytes p.delivery ++ (section ++ p.payload)), length-append (delivery_bytes p.delivery) (section ++ p.payload), length-append section p.payload)
 
 -- an identifier, a section of properties, and the entries or codes after them

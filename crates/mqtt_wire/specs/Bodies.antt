@@ -37,13 +37,13 @@ delivery_at qos.AtMostOnce bytes = Ok (AtMostOnce, bytes)
 delivery_at qos.AtLeastOnce bytes = identifier_at bytes >>= λ identifier. Ok (AtLeastOnce identifier.0, identifier.1)
 delivery_at qos.ExactlyOnce bytes = identifier_at bytes >>= λ identifier. Ok (ExactlyOnce identifier.0, identifier.1)
 
--- 3.3 PUBLISH: what is left behind the properties is the payload
+-- 3.3 PUBLISH: what is left behind the properties is the payload. A client's has no Subscription Identifier (3.3.4)
 unfoldable pub publish_body_at : PublishFlags → List ℕ → Result Publish StreamFault
 publish_body_at flags body = do
   topic ← text_at body
   delivery ← delivery_at flags.qos topic.1
   all ← properties_at sections.Publish delivery.1
-  Ok (record { dup = flags.dup; retain = flags.retain; topic = topic.0; delivery = delivery.0; properties = publish_of all.0; payload = all.1 })
+  Ok (record { dup = flags.dup; retain = flags.retain; delivery = delivery.0; message_expiry_interval = all.0.message_expiry_interval; subscription_identifier = None; topic = topic.0; properties = publish_of all.0; payload = all.1 })
 
 -- properties with nothing after them
 unfoldable pub last_properties_at : Section → List ℕ → Result Properties StreamFault

@@ -48,6 +48,7 @@ pub record SpellsPublish (p : Publish) (body : List ℕ) : Type 0 where
   pub all : Properties
   pub section : List ℕ
   pub spelled : SpellsProperties sections.Publish all section
+  pub expiry_is : all.message_expiry_interval ≡ p.message_expiry_interval
   pub properties_are : publish_of all ≡ p.properties
   pub parts : body ≡ utf8_string p.topic ++ (delivery_bytes p.delivery ++ (section ++ p.payload))
 

@@ -78,7 +78,7 @@ connect_body c = protocol ++ (connect_flags c ∷ u16_bytes c.keep_alive ++ (pro
 
 -- 3.3.2 and 3.3.3: topic, identifier, properties, payload
 abbrev pub publish_body : Publish → List ℕ
-publish_body p = utf8_string p.topic ++ (delivery_bytes p.delivery ++ (properties (publish_list p.properties) ++ p.payload))
+publish_body p = utf8_string p.topic ++ (delivery_bytes p.delivery ++ (properties (publish_list p) ++ p.payload))
 
 -- 3.4.2: identifier, and the Reason Code with the properties
 abbrev pub puback_body : Puback → List ℕ

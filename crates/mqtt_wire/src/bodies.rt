@@ -155,35 +155,43 @@ fn read_publish(alloc: Global, flags: PublishFlags, mut body: Bytes) -> Result<P
 {
     let topic = read_text(&mut body)?;
     let delivery = read_delivery(flags.qos, &mut body)?;
-    let properties = read_publish_properties(alloc, &mut body)?;
+    let (message_expiry_interval, properties) = read_publish_properties(alloc, &mut body)?;
     Ok(Packet::Publish(Publish {
         dup: flags.dup,
         retain: flags.retain,
-        topic,
         delivery,
+        message_expiry_interval,
+        subscription_identifier: None,
+        topic,
         properties,
         payload: body,
     }))
 }
 
-/// Takes the properties of a PUBLISH. Most have none, and a length of 0 says so.
-fn read_publish_properties(alloc: Global, body: &mut Bytes) -> Result<RareProperties, Fault>
+/// Takes the properties of a PUBLISH: its Message Expiry Interval, and the others. Most have none, and a length of 0 says so.
+fn read_publish_properties(
+    alloc: Global,
+    body: &mut Bytes,
+) -> Result<(Option<u32>, RareProperties), Fault>
     ensures { GivesPublish result body.new (properties_at Section.Publish body.old) }
 {
     if let [0, ..] = body.as_slice() {
         body.advance(1);
-        return Ok(RareProperties::none());
+        return Ok((None, RareProperties::none()));
     }
     read_rare_properties(alloc, body)
 }
 
 /// Takes the properties of a PUBLISH that may have some.
 #[inline(never)]
-fn read_rare_properties(alloc: Global, body: &mut Bytes) -> Result<RareProperties, Fault>
+fn read_rare_properties(
+    alloc: Global,
+    body: &mut Bytes,
+) -> Result<(Option<u32>, RareProperties), Fault>
     ensures { GivesPublish result body.new (properties_at Section.Publish body.old) }
 {
-    let properties = read_properties(alloc, Section::Publish, body)?.into_publish();
-    Ok(RareProperties::new(alloc, properties)?)
+    let (expiry, others) = read_properties(alloc, Section::Publish, body)?.into_publish();
+    Ok((expiry, RareProperties::new(alloc, others)?))
 }
 
 /// Reads the reason code and the properties that end a PUBACK or a DISCONNECT (sections 3.4.2 and 3.14.2).

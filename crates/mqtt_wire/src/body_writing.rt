@@ -156,11 +156,11 @@ fn put_publish(out: &mut Vec<u8>, publish: &Publish)
     requires size { length (publish_body publish.now) < 268435456 }
     requires room { HasRoom out.old (publish_body publish.now) }
     ensures appended { Appends out.old (publish_body publish.now) out.new }
-    ensures fits { IsFromClient (Packet.Publish publish.now) × PublishFits publish.now.properties }
+    ensures fits { IsText publish.now.topic × IsDelivery publish.now.delivery × PublishFits publish.now }
 {
     put_text(out, &publish.topic);
     put_delivery(out, &publish.delivery);
-    put_publish_properties(out, &publish.properties);
+    put_publish_properties(out, publish);
     put_bytes(out, publish.payload.as_slice());
 }
 

@@ -9,8 +9,8 @@ ghost use Rattle.mqtt_wire.specs.Writing.{subscription_bytes, delivery_bytes, re
 ghost use Rattle.mqtt_fields.specs.Forms.{utf8_string, binary_data};
 
 use mqtt_fields::{
-    connect_list_size, disconnect_list_size, puback_list_size, publish_properties_size,
-    section_size, subscribe_list_size, unsubscribe_list_size, variable_size,
+    connect_list_size, disconnect_list_size, puback_list_size, publish_list_size, section_size,
+    subscribe_list_size, unsubscribe_list_size, variable_size,
 };
 use mqtt_packet::{
     Acceptance, Binary, Connack, Connect, Delivery, Offer, Packet, QoS, ReasonCode, Subscription,
@@ -33,7 +33,7 @@ pub(crate) fn body_size(packet: &Packet) -> Option<usize>
         }
         Packet::Connack(connack) => within(connack_size(connack)),
         Packet::Publish(publish) => {
-            let properties = section_size(publish_properties_size(&publish.properties))?;
+            let properties = section_size(publish_list_size(publish))?;
             let header = 2 + publish.topic.as_bytes().len() + delivery_size(&publish.delivery);
             within(header + properties + publish.payload.len())
         }

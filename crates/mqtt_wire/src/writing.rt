@@ -31,7 +31,8 @@ pub fn encode(alloc: Global, packet: &Packet) -> Result<Vec<u8>, Fault>
 /// identifiers, and nothing that may be left out. Of the last three kinds of packet, which are only read, it is the
 /// shortest form that is read as the same packet.
 ///
-/// What is written of a kind that a client sends is read again as the same packet, where it has at most 65,536 bytes.
+/// What is written of a kind that a client sends is read again as the same packet, where it has at most 65,536 bytes. A PUBLISH with a
+/// Subscription Identifier is of no such kind: only a server sends it.
 ///
 /// Refusals: 103 exactly where the Remaining Length would be over 268,435,455; 104 where the buffer has no room and memory
 /// is refused. Then it holds what it held. Its capacity never shrinks.
