@@ -22,10 +22,10 @@ abbrev pub job : Bool → Message → Option ℕ → ℕ → Packet
 job dup message subscription identifier = packets.Publish (record {
   dup = dup;
   retain = false;
-  topic = message.topic;
   delivery = AtLeastOnce identifier;
   message_expiry_interval = None;
-  subscription_identifier = subscription;
+  subscription_identifier = None;
+  topic = message.topic;
   properties = message.properties;
   payload = message.payload;
 })

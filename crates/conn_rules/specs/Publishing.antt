@@ -38,10 +38,10 @@ publish_answer publish = delivery_answer publish.delivery publish
 abbrev pub puback_code : ℕ → ℕ → ℕ
 puback_code matched taken = if matched == 0 then 0x10 else (if nat_lt taken matched then 0x97 else 0)
 
--- of the properties of a PUBLISH, those that go with its message: all but the alias of its topic (3.3.2.3)
+-- of the properties that stand apart from a PUBLISH, those that go with its message: all but the alias of its topic (3.3.2.3)
 abbrev pub forwarded : PublishProperties → PublishProperties
 forwarded properties = record properties { topic_alias = None }
 
--- the message of a PUBLISH: its topic, the properties that go with it, and its payload (3.3.2.3)
+-- the message of a PUBLISH: its topic, the properties that go with it, and its payload (3.3.2.3), without how long it lasts
 abbrev pub message_of : Publish → Message
 message_of publish = record { topic = publish.topic; properties = forwarded publish.properties; payload = publish.payload }

@@ -50,10 +50,10 @@ pub fn job(
     Ok(Packet::Publish(Publish {
         dup,
         retain: false,
-        topic,
         delivery: Delivery::AtLeastOnce(identifier),
         message_expiry_interval: None,
-        subscription_identifier: subscription,
+        subscription_identifier: None,
+        topic,
         properties,
         payload,
     }))

@@ -28,7 +28,7 @@ pub fn answer_to_publish(publish: &Publish) -> PublishAnswer
     }
 }
 
-/// What becomes of a PUBLISH of QoS 1 under that identifier. One that expires is refused (profile, for now).
+/// What becomes of a PUBLISH of QoS 1 under that identifier. One that expires (section 3.3.2.3.3) is refused (profile, for now).
 fn answer_under(identifier: PacketIdentifier, publish: &Publish) -> PublishAnswer
     ensures { result ≡ identified_answer (closing_code publish.now) identifier publish.now }
 {
