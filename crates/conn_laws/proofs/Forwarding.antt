@@ -35,7 +35,6 @@ Properties = domain publish_of
 abbrev going_on : PublishProperties → PublishProperties
 going_on p = record {
   payload_format_indicator = p.payload_format_indicator;
-  message_expiry_interval = None;
   content_type = p.content_type;
   response_topic = p.response_topic;
   correlation_data = p.correlation_data;
@@ -43,14 +42,31 @@ going_on p = record {
   user_properties = p.user_properties;
 }
 
--- how many bytes they have
+-- a PUBLISH that has those alone
+abbrev bare : PublishProperties → Publish
+bare p = record {
+  dup = false;
+  retain = false;
+  delivery = AtMostOnce;
+  message_expiry_interval = None;
+  subscription_identifier = None;
+  topic = [];
+  properties = going_on p;
+  payload = [];
+}
+
+-- the bytes of its properties
+abbrev carried_list : PublishProperties → List ℕ
+carried_list p = publish_list (bare p)
+
+-- how many they are
 abbrev carried : Properties → ℕ
-carried all = length (publish_list (going_on (publish_of all)))
+carried all = length (carried_list (publish_of all))
 
 -- one property more makes them longer by its own bytes at most
 one_more : (property : Property) (all : Properties) → carried (with_property property all) ≤ length (property_bytes property) + carried all
 one_more property all =
-    grind (arith, publish_length (going_on (publish_of all)), publish_length (going_on (publish_of (with_property property all))), flat_map-append, length-append)
+    grind (arith, publish_length (bare (publish_of all)), publish_length (bare (publish_of (with_property property all))), flat_map-append, length-append)
 
 -- properties that add up have as many bytes as those of them that go with a message
 added : (section : domain may_come) (so_far : Properties) (list : List Property) (all : Properties) → AddUp section so_far list all
@@ -60,9 +76,9 @@ added section so_far (property ∷ others) all adds =
     omega (arith, one_more property so_far, added section (with_property property so_far) others all adds.2, ap length (flat_map-cons property_bytes property others), length-append (property_bytes property) (flat_map property_bytes others))
 
 -- they have no more bytes than the properties with which it came
-fewer : (publish : Publish) (body : List ℕ) (s : SpellsPublish publish body) → length (publish_list (going_on publish.properties)) ≤ length (flat_map property_bytes s.spelled.0)
+fewer : (publish : Publish) (body : List ℕ) (s : SpellsPublish publish body) → length (carried_list publish.properties) ≤ length (flat_map property_bytes s.spelled.0)
 fewer publish body s =
-    subst (λ (p : PublishProperties). length (publish_list (going_on p)) ≤ length (flat_map property_bytes s.spelled.0)) s.properties_are
+    subst (λ (p : PublishProperties). length (carried_list p) ≤ length (flat_map property_bytes s.spelled.0)) s.properties_are
     (let none : carried nothing ≡ 0 = refl in
     let all : carried s.all ≤ length (flat_map property_bytes s.spelled.0) + carried nothing = search (added, s.spelled.2) in
     omega (arith, none, all))
@@ -73,10 +89,10 @@ body_length publish body s =
     omega (arith, ap length s.parts, length-append (utf8_string publish.topic) (delivery_bytes publish.delivery ++ (s.section ++ publish.payload)), length-append (delivery_bytes publish.delivery) (s.section ++ publish.payload), length-append s.section publish.payload, ap length s.spelled.1, properties_size (flat_map property_bytes s.spelled.0))
 
 -- how long the one is that is sent
-sent_length : (publish : Publish) (dup : Bool) (identifier : ℕ) → remaining_length (job dup (message_of publish) identifier) ≡ 4 + length publish.topic + length (variable_byte_integer (length (publish_list (going_on publish.properties)))) + length (publish_list (going_on publish.properties)) + length publish.payload
+sent_length : (publish : Publish) (dup : Bool) (identifier : ℕ) → remaining_length (job dup (message_of publish) identifier) ≡ 4 + length publish.topic + length (variable_byte_integer (length (carried_list publish.properties))) + length (carried_list publish.properties) + length publish.payload
 unfolding remaining_length
 sent_length publish dup identifier =
-    omega (arith, publish_size (record { dup = dup; retain = false; topic = publish.topic; delivery = AtLeastOnce identifier; properties = going_on publish.properties; payload = publish.payload }), properties_size (publish_list (going_on publish.properties)))
+    omega (arith, publish_size (record { dup = dup; retain = false; delivery = AtLeastOnce identifier; message_expiry_interval = None; subscription_identifier = None; topic = publish.topic; properties = going_on publish.properties; payload = publish.payload }), properties_size (carried_list publish.properties))
 
 -- a Packet Identifier has two bytes
 identified : (delivery : Delivery) → delivery ≢ AtMostOnce → length (delivery_bytes delivery) ≡ 2
@@ -97,7 +113,7 @@ grown publish bytes dup identifier s =
     let whole = whole_length publish bytes s in
     let size = s.size in
     let small : length list < 2097152 = omega (arith, body, whole, size) in
-    omega (arith, sent_length publish dup identifier, body, less, no_more_bytes (length (publish_list (going_on publish.properties))) (length list) less small)
+    omega (arith, sent_length publish dup identifier, body, less, no_more_bytes (length (carried_list publish.properties)) (length list) less small)
 
 pub no_longer : (publish : Publish) (bytes : List ℕ) (dup : Bool) (identifier : ℕ) → Spells (packets.Publish publish) bytes → publish.delivery ≢ AtMostOnce
     → length (written (job dup (message_of publish) identifier)) ≤ length bytes
