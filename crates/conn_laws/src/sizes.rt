@@ -1,5 +1,6 @@
 //! The laws of how long packets are: of single packets, and of every step over every supply.
-ghost use Rattle.std.specs.Prelude.{◌≡◌, ◌≢◌, ◌+◌, ◌≤◌, ℕ, Bool, List, length, Some, None};
+ghost use Rattle.std.specs.Prelude.{◌≡◌, ◌≢◌, ◌+◌, ◌≤◌, ℕ, Bool, List, length, Option, Some, None};
+ghost use Rattle.conn_rules.specs.Connecting.{most_publish_bytes};
 ghost use Rattle.std.specs.List.{AllByRecursion};
 ghost use Rattle.mqtt_packet.specs.declared.packet.ConnectRefusal.{ConnectRefusal};
 ghost use Rattle.mqtt_packet.specs.declared.packet.Delivery.TheVariants.{AtMostOnce};
@@ -21,13 +22,18 @@ ghost use Rattle.conn_laws.specs.Sizes.{IsSmall, IsShort, IsLight, IsAnswerUnles
 
 use conn_supply::{HoldingPlace, Supply};
 
-/// **A message is handed on in no more bytes than it came in** (section 3.3): a PUBLISH that was read has at most 65,536 bytes in all, and
-/// what goes on of it is its topic, its payload, and those of its properties that go with a message (3.3.2.3). Where it came with a Packet
-/// Identifier, the PUBLISH that hands it on is no longer than the one that brought it (`no_longer`); and in any case it is short (`light`).
+/// **A message is handed on in no more bytes than it came in, and those of a Subscription Identifier** (section 3.3): a PUBLISH that was read
+/// has at most 65,536 bytes in all, and what goes on of it is its topic, its payload, and those of its properties that go with a message
+/// (3.3.2.3). Where it came with a Packet Identifier, the PUBLISH that hands it on without a Subscription Identifier is no longer than the one
+/// that brought it (`no_longer`), and with one it has at most 65,542 bytes, which each client takes that is a member (`taken`, section
+/// 3.1.2.11.4); and in any case it is short (`light`).
 pub fn forwarded_law()
     ensures no_longer { (publish : Publish) (bytes : List ℕ) (dup : Bool) (identifier : ℕ) →
         Spells (packets.Publish publish) bytes → publish.delivery ≢ AtMostOnce →
-        length (written (job dup (message_of publish) identifier)) ≤ length bytes }
+        length (written (job dup (message_of publish) None identifier)) ≤ length bytes }
+    ensures taken { (publish : Publish) (bytes : List ℕ) (dup : Bool) (subscription : Option ℕ) (identifier : ℕ) →
+        Spells (packets.Publish publish) bytes → publish.delivery ≢ AtMostOnce →
+        length (written (job dup (message_of publish) subscription identifier)) ≤ most_publish_bytes }
     ensures light { (publish : Publish) (bytes : List ℕ) →
         Spells (packets.Publish publish) bytes → IsLight (message_of publish) }
 {}

@@ -7,3 +7,6 @@ returns-clause-no_longer c publish bytes dup identifier spelled some = forwardin
 
 pub returns-clause-light : goal.returns-clause-light
 returns-clause-light c publish bytes spelled = forwarding.light publish bytes spelled
+
+pub returns-clause-taken : goal.returns-clause-taken
+returns-clause-taken c publish bytes dup subscription identifier spelled some = forwarding.taken publish bytes dup subscription identifier spelled some
