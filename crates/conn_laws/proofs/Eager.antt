@@ -1,5 +1,5 @@
 -- Nothing is left to hand out after a step.
-use Rattle.std.proofs.Common.{ℕ, false, List, [], ◌∷◌, Some, None, sym, subst, inl, inr}
+use Rattle.std.proofs.Common.{Option, ℕ, false, List, [], ◌∷◌, Some, None, sym, subst, inl, inr}
 use Rattle.mqtt_packet.specs.declared.packet.Packet.{Packet}
 use Rattle.group_jobs.specs.Stamps.{Held}
 use Rattle.member_window.specs.Contents.{Contents, IsNextResend, HasRoom, after_resend}

@@ -29,14 +29,14 @@ in_fewer packet size is small = let less : remaining_length packet < 128 = omega
 
 -- ---- CONNACK
 
-accepted_body : (present : Bool) → length (written_body (accepting present None)) ≡ 14
+accepted_body : (present : Bool) → length (written_body (accepting present None)) ≡ 12
 unfolding variable_bytes
 accepted_body present = refl
 
 pub accepted : (present : Bool) → IsSmall (accepting present None)
 accepted present = omega (arith, remaining_is (accepting present None), accepted_body present, in_few (accepting present None) (length (written_body (accepting present None))) (remaining_is (accepting present None)) (omega (arith, accepted_body present)))
 
-assigned_body : (present : Bool) (number : ℕ) → length (written_body (accepting present (Some (assigned_name number)))) ≡ 30
+assigned_body : (present : Bool) (number : ℕ) → length (written_body (accepting present (Some (assigned_name number)))) ≡ 28
 unfolding variable_bytes
 assigned_body present number = refl
 
@@ -54,7 +54,7 @@ text_length name is = ltb-true (length name) 65536 (and_parts (nat_lt (length na
 abbrev acceptance : Bool → List ℕ → Acceptance
 acceptance present name = record { session_present = present; assigned_client_identifier = Some name; offer = offer }
 
-properties_length : (name : List ℕ) → length (assigned name ++ offer_bytes offer) ≡ 14 + length name
+properties_length : (name : List ℕ) → length (assigned name ++ offer_bytes offer) ≡ 12 + length name
 properties_length name = omega (arith, length-append (assigned name) (offer_bytes offer))
 
 pub named : (present : Bool) (name : List ℕ) → IsText name → IsShort (accepting present (Some name))
@@ -63,7 +63,7 @@ named present name is =
     let text = text_length name is in
     let said = properties_length name in
     let few : length (assigned name ++ offer_bytes offer) < 2097152 = omega (arith, said, text) in
-    let body : remaining_length packet ≤ 19 + length name = omega (arith, remaining_is packet, connack_size (acceptance present name), said, at_most_three (length (assigned name ++ offer_bytes offer)) few) in
+    let body : remaining_length packet ≤ 17 + length name = omega (arith, remaining_is packet, connack_size (acceptance present name), said, at_most_three (length (assigned name ++ offer_bytes offer)) few) in
     let small : remaining_length packet < 2097152 = omega (arith, body, text) in
     omega (arith, in_three_bytes packet small, body, text)
 

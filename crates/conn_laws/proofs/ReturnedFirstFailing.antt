@@ -1,5 +1,5 @@
 -- What was given back is handed out first, among the calls of a step that wants memory.
-use Rattle.std.proofs.Common.{ℕ, false, List, [], ◌∷◌, Some, inl, inr, ⊎_elim, is_some}
+use Rattle.std.proofs.Common.{Option, ℕ, false, List, [], ◌∷◌, Some, inl, inr, ⊎_elim, is_some}
 use Rattle.mqtt_packet.specs.declared.packet.Packet.{Packet}
 use Rattle.mqtt_packet.specs.declared.packet.Packet.TheVariants as packets
 use Rattle.mqtt_packet.specs.declared.packet.Publish.{Publish}

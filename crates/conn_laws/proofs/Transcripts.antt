@@ -21,7 +21,7 @@ use Rattle.conn_engine.specs.declared.phase.ConnPhase.TheVariants.{Unconnected, 
 use Rattle.conn_engine.specs.Step.{after_hand_out, Hands, Steps}
 use Rattle.conn_laws.specs.Calls.{settlement_of, hand_out_of, settled, handed}
 use Rattle.conn_laws.specs.Marks.{as_publish, publishes_in, publish_of, publishes_of, fresh_in, fresh_of, acknowledged_in, acknowledged_of, IsWithin}
-use Rattle.conn_laws.specs.Transcripts.{connected_of, IsNotEnding, HasOneAs, IsMemberAt, IsAside, LeadsAside, SessionSteps, Transcribes}
+use Rattle.conn_laws.specs.Transcripts.{connected_of, IsNotEnding, HasOneAs, IsMemberAt, IsAside, LeadsAside, SessionSteps, Transcribes, subscription_of}
 use Rattle.conn_laws.proofs.Aside.{all_of_both, joins}
 use Rattle.conn_laws.proofs.HandingOut.{Handed, handed_out}
 use Rattle.conn_laws.proofs.Reacting.{SettlesAs, SessionStepped, reacted}
@@ -103,7 +103,7 @@ module _ {S P : Type 0} (call : S → SupplyCall P → S → Type 0) where
         publishes = sym turned.no_publish;
         supply_calls = turned.supply_calls;
         made = turned.made;
-        hands = ap (map (λ (h : P × Held). h.1)) turned.hands ∙ sym turned.none_fresh;
+        hands = ap (map (λ (h : P × Held). under (subscription_of (connected_of phase')) h.1)) turned.hands ∙ sym turned.none_fresh;
         own = λ of keeps. subst (AllByRecursion (λ (h : P × Held). IsMemberAt of (connected_of phase') h.0)) (sym turned.hands) tt;
         settles = turned.settles;
       }

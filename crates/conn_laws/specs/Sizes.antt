@@ -16,7 +16,7 @@ IsSmall packet = length (written packet) ≤ bytes_for_all
 
 -- the most bytes that a packet of the broker has in all: a CONNACK has so many that assigns the longest text as a Client Identifier
 abbrev pub most_bytes : ℕ
-most_bytes = 65558
+most_bytes = 65556
 
 abbrev pub IsShort : Packet → Type 0
 IsShort packet = length (written packet) ≤ most_bytes
