@@ -287,7 +287,7 @@ handed (Waiting request ticks) ledger mid new sent phase' Says does was says =
       subst (λ (s : ConnPhase GroupPlace). IfUp (connected_of s) Says) (sym does.1) tt,
     )
 handed (Connected connected) ledger mid new sent phase' Says does was says =
-    let out = hands_out ledger mid new connected.session.membership connected.session.window sent does.0 does.1 does.2 was in (
+    let out = hands_out connected.session.subscription ledger mid new connected.session.membership connected.session.window sent does.0 does.1 does.2 was in (
       at_last ledger mid new phase' (Connected (after_hand_out connected does.0 does.1)) does.3 (record { holds = out.0; adds = out.1.adds }),
       subst (λ (s : ConnPhase GroupPlace). IfUp (connected_of s) Says) (sym does.3) says,
     )

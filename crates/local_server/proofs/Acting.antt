@@ -272,13 +272,13 @@ moved ledger old new connected membership goes follows was =
     less ledger new connected.session.membership membership entries entries (λ i e c. c) (λ owned. follows new entries owned)
     (calm ledger old new connected.session.membership entries goes was)
 
-subscribed : (refused : Option ℕ) (ledger : Ledger) (old new : Broker) (connected : ConnectedClient GroupPlace) (subscribe : Subscribe) (reply : Reply) (membership : Membership GroupPlace)
-    → SubscribesAs Calls slot_of refused connected.terms old connected.session.membership subscribe reply membership new → HoldsClient ledger old connected
+subscribed : (refused : Option ℕ) (ledger : Ledger) (old new : Broker) (connected : ConnectedClient GroupPlace) (subscribe : Subscribe) (reply : Reply) (membership : Membership GroupPlace) (subscription : Option ℕ)
+    → SubscribesAs Calls slot_of refused connected.terms old connected.session.membership connected.session.subscription subscribe reply membership subscription new → HoldsClient ledger old connected
     → Holds ledger new membership (held_of connected.session.window) × AddsIn old.groups [] new.groups
-subscribed (Some code) ledger old new connected subscribe reply membership does was =
-    let goes = still old new does.2 in (moved ledger old new connected membership goes (same_member connected.session.membership membership does.1) was, goes.adds)
-subscribed None ledger old new connected subscribe reply membership does was =
-    let all = entries_answered subscribe.subscriptions _ connected.terms old new connected.session.membership does.0 membership does.2 in
+subscribed (Some code) ledger old new connected subscribe reply membership subscription does was =
+    let goes = still old new does.3 in (moved ledger old new connected membership goes (same_member connected.session.membership membership does.1) was, goes.adds)
+subscribed None ledger old new connected subscribe reply membership subscription does was =
+    let all = entries_answered subscribe.subscriptions connected.terms old new connected.session.membership does.0 membership does.2 in
     (moved ledger old new connected membership all.0 all.1 was, all.0.adds)
 
 unsubscribed : (refused : Option ℕ) (ledger : Ledger) (old new : Broker) (connected : ConnectedClient GroupPlace) (unsubscribe : Unsubscribe) (reply : Reply) (membership : Membership GroupPlace)
@@ -312,8 +312,8 @@ answered (packets.Puback puback) ledger old new number connected connected' repl
     subst (λ (l : ConnectedClient GroupPlace). Answered ledger old number connected (packets.Puback puback) l new) (sym does.2)
     (answers_so ledger old new number connected _ (packets.Puback puback) acked.settled acked.holds acked.adds acked.exact)
 answered (packets.Subscribe subscribe) ledger old new number connected connected' reply does was =
-    let both = subscribed (subscribe_refusal subscribe) ledger old new connected subscribe reply does.0 does.1 was in
-    subst (λ (l : ConnectedClient GroupPlace). Answered ledger old number connected (packets.Subscribe subscribe) l new) (sym does.2)
+    let both = subscribed (subscribe_refusal subscribe) ledger old new connected subscribe reply does.0 does.1 does.2 was in
+    subst (λ (l : ConnectedClient GroupPlace). Answered ledger old number connected (packets.Subscribe subscribe) l new) (sym does.3)
     (answers_so ledger old new number connected _ (packets.Subscribe subscribe) [] both.0 both.1 tt)
 answered (packets.Unsubscribe unsubscribe) ledger old new number connected connected' reply does was =
     let both = unsubscribed (unsubscribe_refusal unsubscribe) ledger old new connected unsubscribe reply does.0 does.1 was in

@@ -7,7 +7,7 @@ use Rattle.dispatch_core.specs.declared.event.Spot.{Spot}
 use Rattle.dispatch_core.specs.declared.event.Spot.TheVariants as spot
 use Rattle.dispatch_core.specs.GroupState.{spot_of}
 use Rattle.group_jobs.specs.declared.stamp.Stamp.{Stamp}
-use Rattle.group_jobs.specs.Stamps.{Held, job_of}
+use Rattle.group_jobs.specs.Stamps.{under, Held, job_of}
 use Rattle.member_window.specs.Contents.{Contents, held_of, after_put, after_resend}
 use Rattle.member_window.proofs.Lists.{contains_nil, contains_cons_cases}
 use Rattle.session_desk.specs.declared.session.Membership.{Membership}
@@ -166,26 +166,35 @@ sends_none ledger old new place place' window window' running know (same, inr (i
     let a = asked None ledger.log old new place place' running know none.2 in (a.kept, a.goes)
 sends_none ledger old new place place' window window' running know (same, inr (inr stop)) = let answer = stop.3.0 in absurd (cc)
 
-sends_fresh : (packets : List Packet) (ledger : Ledger) (old new : Broker) (place place' : GroupPlace) (window window' : Contents Held)
-    → SendsFresh Calls old place window packets place' window' new
+-- a message is out at its place under whatever Subscription Identifier
+out_under : (b : Broker) (place : GroupPlace) (envelope : Held) (subscription : Option ℕ) → HasOut b place envelope → HasOut b place (under subscription envelope)
+out_under b place envelope subscription has = record {
+  group = has.group;
+  there = has.there;
+  is_so = record { held = record { ours = has.is_so.held.ours; there = has.is_so.held.there }; its = has.is_so.its };
+}
+
+sends_fresh : (subscription : Option ℕ) (packets : List Packet) (ledger : Ledger) (old new : Broker) (place place' : GroupPlace) (window window' : Contents Held)
+    → SendsFresh Calls subscription old place window packets place' window' new
     → Holds ledger old (Member place) (held_of window) → Handed ledger old (Member place') window' new
-sends_fresh [] ledger old new place place' window window' sends was =
+sends_fresh subscription [] ledger old new place place' window window' sends was =
     let moved = sends_none ledger old new place place' window window' was.others.running was.others.know sends in
     let same : Holds ledger old (Member place') (held_of window') =
     subst (λ (p : GroupPlace). Holds ledger old (Member p) (held_of window')) (sym moved.0)
     (subst (λ (w : Contents Held). Holds ledger old (Member place) (held_of w)) (sym sends.0) was) in
     (calm ledger old new (Member place') (held_of window') moved.1 same, moved.1)
-sends_fresh (packet ∷ packets) ledger old new place place' window window' sends was =
+sends_fresh subscription (packet ∷ packets) ledger old new place place' window window' sends was =
     let between = sends.0 in
     let mid = sends.2 in
     let s = sends.3 in
     let a = asked (Some s.envelope) ledger.log old mid place between was.others.running was.others.know s.asked in
     let n = a.new_one s.envelope refl in
-    let put_in : Holds ledger mid (Member place) (held_of (after_put window s.identifier s.envelope)) = put ledger old mid place window s.identifier s.envelope a.goes n.0 n.1 n.2 was in
+    let put_in : Holds ledger mid (Member place) (held_of (after_put window s.identifier (under subscription s.envelope))) =
+    put ledger old mid place window s.identifier (under subscription s.envelope) a.goes (out_under mid place s.envelope subscription n.0) n.1 n.2 was in
     let next : Holds ledger mid (Member between) (held_of sends.1) =
     subst (λ (p : GroupPlace). Holds ledger mid (Member p) (held_of sends.1)) (sym a.kept)
     (subst (λ (w : Contents Held). Holds ledger mid (Member place) (held_of w)) (sym s.put) put_in) in
-    let rest = sends_fresh packets ledger mid new between place' sends.1 window' sends.4 next in
+    let rest = sends_fresh subscription packets ledger mid new between place' sends.1 window' sends.4 next in
     (rest.0, calm_then old mid new a.goes rest.1)
 
 -- who leaves
@@ -203,19 +212,19 @@ leaves ledger old new place window membership (inr stays) was = (
   still old new stays.2,
 )
 
-hands_fresh : (membership : Membership GroupPlace) (ledger : Ledger) (old new : Broker) (window : Contents Held) (packets : List Packet) (membership' : Membership GroupPlace)
+hands_fresh : (subscription : Option ℕ) (membership : Membership GroupPlace) (ledger : Ledger) (old new : Broker) (window : Contents Held) (packets : List Packet) (membership' : Membership GroupPlace)
     (window' : Contents Held)
-    → HandsFresh Calls old membership window packets membership' window' new → Holds ledger old membership (held_of window) → Handed ledger old membership' window' new
-hands_fresh NotMember ledger old new window packets membership' window' does was =
+    → HandsFresh Calls subscription old membership window packets membership' window' new → Holds ledger old membership (held_of window) → Handed ledger old membership' window' new
+hands_fresh subscription NotMember ledger old new window packets membership' window' does was =
     let goes = still old new does.3 in (
       subst (λ (m : Membership GroupPlace). Holds ledger new m (held_of window')) (sym does.1)
           (subst (λ (w : Contents Held). Holds ledger new NotMember (held_of w)) (sym does.2) (calm ledger old new NotMember (held_of window) goes was)),
       goes,
     )
-hands_fresh (Member place) ledger old new window packets membership' window' does was =
-    let sent = sends_fresh packets ledger old new place does.0 window window' does.2 was in
+hands_fresh subscription (Member place) ledger old new window packets membership' window' does was =
+    let sent = sends_fresh subscription packets ledger old new place does.0 window window' does.2 was in
     (subst (λ (m : Membership GroupPlace). Holds ledger new m (held_of window')) (sym does.1) sent.0, sent.1)
-hands_fresh (Leaving place) ledger old new window packets membership' window' does was =
+hands_fresh subscription (Leaving place) ledger old new window packets membership' window' does was =
     subst (λ (w : Contents Held). Handed ledger old membership' w new) (sym does.1) (leaves ledger old new place window membership' does.2 was)
 
 -- what is sent again was held
@@ -228,9 +237,9 @@ held_again (packet ∷ packets) old new sends =
     ∙ append_assoc old.owed (entry ∷ []) (drop 1 old.waiting)
     ∙ ap (λ (es : Entries). old.owed ++ es) (ap (λ (es : Entries). entry ∷ drop 1 es) next.1 ∙ sym next.1)
 
-pub hands_out : (ledger : Ledger) (old new : Broker) (membership : Membership GroupPlace) (window : Contents Held) (packets : List Packet) (membership' : Membership GroupPlace)
+pub hands_out : (subscription : Option ℕ) (ledger : Ledger) (old new : Broker) (membership : Membership GroupPlace) (window : Contents Held) (packets : List Packet) (membership' : Membership GroupPlace)
     (window' : Contents Held)
-    → HandsOut Calls old membership window packets membership' window' new → Holds ledger old membership (held_of window) → Handed ledger old membership' window' new
-hands_out ledger old new membership window packets membership' window' does was =
-    hands_fresh membership ledger old new does.between does.fresh membership' window' does.sent_fresh
+    → HandsOut Calls subscription old membership window packets membership' window' new → Holds ledger old membership (held_of window) → Handed ledger old membership' window' new
+hands_out subscription ledger old new membership window packets membership' window' does was =
+    hands_fresh subscription membership ledger old new does.between does.fresh membership' window' does.sent_fresh
     (subst (λ (es : Entries). Holds ledger old membership es) (sym (held_again does.again window does.between does.sent_again)) was)

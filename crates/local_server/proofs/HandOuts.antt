@@ -3,7 +3,7 @@ use Rattle.std.proofs.Common.{◌≡◌, ℕ, if◌then◌else◌, nat_eq, List,
 use Rattle.std.specs.Prelude.{⊤}
 use Rattle.std.specs.List.{AllByRecursion, cons_option}
 use Rattle.mqtt_topic.specs.Names.{Share}
-use Rattle.group_jobs.specs.Stamps.{Held, job_of}
+use Rattle.group_jobs.specs.Stamps.{Held, job_of, under}
 use Rattle.local_group.specs.Groups.{Group}
 use Rattle.conn_supply.specs.declared.supply.NoMemory.{NoMemory}
 use Rattle.conn_supply.specs.SupplyCalls.{SupplyCall}
@@ -89,11 +89,20 @@ seen_all slot (hand_out ∷ others) all =
     let rest = seen_all slot others all.1 in
     λ i. cons_option (one i) (rest i)
 
+-- a message without its Subscription Identifier
+abbrev pub plain : Held → Held
+plain envelope = under None envelope
+
+-- a group sees it as it sees the message
+seen_plain : (slot : ℕ) (all : List Held) → filter_map (seen_by slot) (map plain all) ≡ filter_map (seen_by slot) all
+seen_plain slot [] = refl
+seen_plain slot (envelope ∷ others) = ap (cons_option (seen_by slot envelope)) (seen_plain slot others)
+
 pub handed : (capacity : ℕ) (shares : List Share) (happenings : List Happening) (first b : Broker) (fresh : List Held) → IsNewBroker capacity shares first
     → HappensAll first happenings b
-    → fresh ≡ map (λ (h : HandOut). h.1) (handed_by_all happenings) → (slot : ℕ) (group : Group) → slice_get b.groups slot ≡ Some group
+    → map plain fresh ≡ map plain (map (λ (h : HandOut). h.1) (handed_by_all happenings)) → (slot : ℕ) (group : Group) → slice_get b.groups slot ≡ Some group
     → handed_in_all group.events ≡ filter_map (seen_by slot) fresh
 handed capacity shares happenings first b fresh new all is slot group there =
     handed_all capacity shares happenings first b new all slot group there
     ∙ seen_all slot (handed_by_all happenings) (all_belong happenings first b (running_first capacity shares first new) all)
-    ∙ ap (filter_map (seen_by slot)) (sym is)
+    ∙ sym (seen_plain slot (map (λ (h : HandOut). h.1) (handed_by_all happenings))) ∙ ap (filter_map (seen_by slot)) (sym is) ∙ seen_plain slot fresh

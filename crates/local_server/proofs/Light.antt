@@ -63,7 +63,7 @@ pub marks_short : (marks : List (Mark Held)) → ((e : Held) → Contains (filte
 marks_short [] all = tt
 marks_short (Up receive_maximum ∷ marks) all = marks_short marks all
 marks_short (Sent identifier dup envelope ∷ marks) all =
-    (all envelope (contains_here envelope (filter_map sent_in marks)) dup identifier, marks_short marks (λ e has. all e (contains_there envelope (filter_map sent_in marks) e has)))
+    (all envelope (contains_here envelope (filter_map sent_in marks)) dup envelope.subscription identifier, marks_short marks (λ e has. all e (contains_there envelope (filter_map sent_in marks) e has)))
 marks_short (Acked identifier code ∷ marks) all = marks_short marks all
 marks_short (Down ∷ marks) all = marks_short marks all
 
@@ -82,7 +82,7 @@ packets_short (packet ∷ others) all publishes = (
     first : IsShortUnlessHandedOn packet → IsShort packet
     first (inl short) = short
     first (inr on) =
-        let its : AllByRecursion IsShort (cons_option (as_publish (job on.dup on.message on.identifier)) (publishes_in others)) =
+        let its : AllByRecursion IsShort (cons_option (as_publish (job on.dup on.message on.subscription on.identifier)) (publishes_in others)) =
         subst (λ (p : Packet). AllByRecursion IsShort (cons_option (as_publish p) (publishes_in others))) on.is publishes in
         subst IsShort (sym on.is) its.0
 

@@ -51,7 +51,7 @@ use Rattle.local_server.proofs.Owning.{AtDesk, InHand, Owns, owns_closed, owns_n
 use Rattle.local_server.proofs.Addressed as addressed
 use Rattle.local_server.proofs.Addressed.{at, answered, new_numbered}
 use Rattle.local_server.proofs.Happened.{joins, first_ok, then_ok, undergoes}
-use Rattle.local_server.proofs.HandOuts.{handed}
+use Rattle.local_server.proofs.HandOuts.{handed, plain}
 use Rattle.local_server.proofs.Quotas as quotas
 use Rattle.local_server.proofs.Quotas.{keeps_quota}
 use Rattle.local_server.proofs.Lent.{IsLentTo, one_holder}
@@ -134,7 +134,7 @@ shut first conn_steps all_connected old closed closes keeps =
       led = joins keeps.happenings (Closed ∷ []) first old closed keeps.led (closed, closes, refl);
       fresh =
           keeps.fresh
-          ∙ ap (map (λ (h : HandOut). h.1)) (sym (filter_map-append handed_by keeps.happenings (Closed ∷ []) ∙ append-nil (handed_by_all keeps.happenings)));
+          ∙ ap (λ (all : List HandOut). map plain (map (λ (h : HandOut). h.1) all)) (sym (filter_map-append handed_by keeps.happenings (Closed ∷ []) ∙ append-nil (handed_by_all keeps.happenings)));
       sessions = subst (λ (desk : Books Held GroupPlace). KeepsSessions conn_steps desk all_connected) (sym closes.desk) keeps.sessions;
       accepted = keeps.accepted;
       accepts = keeps.accepts;

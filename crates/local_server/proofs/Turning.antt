@@ -1,11 +1,11 @@
 -- What happens to a client is a list of steps.
-use Rattle.std.proofs.Common.{◌≡◌, ℕ, List, [], ◌∷◌, ◌++◌, map, filter_map, Option, Some, None, Result, Ok, Err, IsOk, false, Contains, refl, sym, ap, subst, ◌∙◌, inl, inr, ⊎_elim, append_assoc, append-nil}
+use Rattle.std.proofs.Common.{◌≡◌, ℕ, List, [], ◌∷◌, ◌++◌, map, filter_map, Option, Some, None, Result, Ok, Err, IsOk, false, Contains, refl, sym, ap, subst, ◌∙◌, inl, inr, ⊎_elim, append_assoc, append-nil, tt, absurd}
 use Rattle.std.specs.List.{AllByRecursion}
 use Rattle.std.proofs.lemmas.Bool.{false≢true}
 use Rattle.std.proofs.lemmas.List.{map-append}
 use Rattle.std.proofs.lemmas.List.Elements.{filter_map-append, Contains-append_cases}
 use Rattle.mqtt_wire.specs.Stream.{Unread}
-use Rattle.group_jobs.specs.Stamps.{Held}
+use Rattle.group_jobs.specs.Stamps.{Held, under}
 use Rattle.conn_supply.specs.declared.supply.NoMemory.{NoMemory}
 use Rattle.conn_supply.specs.SupplyCalls.{SupplyCall}
 use Rattle.conn_engine.specs.declared.input.Input.{Input}
@@ -16,7 +16,7 @@ use Rattle.conn_engine.specs.declared.phase.ConnPhase.TheVariants.{Unconnected, 
 use Rattle.conn_engine.specs.Step.{Steps}
 use Rattle.conn_laws.specs.Calls.{handed}
 use Rattle.conn_laws.specs.Marks.{publishes_of, fresh_of}
-use Rattle.conn_laws.specs.Transcripts.{connected_of, IsNotEnding, Transcribes}
+use Rattle.conn_laws.specs.Transcripts.{connected_of, IsNotEnding, Transcribes, subscription_of}
 use Rattle.conn_laws.proofs.Transcripts.{transcribed}
 use Rattle.conn_laws.proofs.Aside.{all_of_both}
 use Rattle.conn_laws.specs.Sizes.{IsShort, IsLight}
@@ -38,6 +38,7 @@ use Rattle.local_server.specs.Transcripts.{all_fresh, connected_in, place_of, la
 use Rattle.local_server.proofs.Happened.{joins, called, handed_by_calls}
 use Rattle.local_server.specs.Messages.{Accepted, IsBrought, AllAccept, sent_in, all_sent}
 use Rattle.local_server.specs.Settling.{Settlement, AllSettle}
+use Rattle.local_server.proofs.HandOuts.{plain}
 use Rattle.local_server.proofs.ConnSteps.{more_fresh, told_on}
 use Rattle.local_server.proofs.Settled.{AddsIn, adds_then}
 use Rattle.local_server.proofs.Owning.{InHand, Owns}
@@ -58,12 +59,24 @@ use Rattle.local_server.proofs.Reading.{IsStep, EndsSteps, IsUnfaulted, left_to,
 abbrev messages : List Happening → List Held
 messages happenings = map (λ (h : HandOut). h.1) (handed_by_all happenings)
 
--- these steps led a broker from the first to this one, what they send for the first time is what its calls handed out, and what they
+-- the messages that were handed out, under whatever Subscription Identifier they are sent
+same_plain : (subscription : Option ℕ) (all : List HandOut) → map plain (map (λ (h : HandOut). under subscription h.1) all) ≡ map plain (map (λ (h : HandOut). h.1) all)
+same_plain subscription [] = refl
+same_plain subscription (hand_out ∷ others) = ap (λ (rest : List Held). plain hand_out.1 ∷ rest) (same_plain subscription others)
+
+at_under : (place : Option GroupPlace) (subscription : Option ℕ) (all : List HandOut) → AllByRecursion (IsAt place) (map (λ (h : HandOut). h.1) all)
+    → AllByRecursion (IsAt place) (map (λ (h : HandOut). under subscription h.1) all)
+at_under place subscription [] at = tt
+at_under None subscription (hand_out ∷ others) at = absurd at.0
+at_under (Some place) subscription (hand_out ∷ others) at = (at.0, at_under (Some place) subscription others at.1)
+
+-- these steps led a broker from the first to this one, what they send for the first time is what its calls handed out, whatever the
+-- Subscription Identifier, and what they
 -- acknowledge was settled in its groups
 pub record Keeps (first : Broker) (conn_steps : List ConnStep) (all_connected : Links) (b : Broker) : Type 0 where
   pub happenings : List Happening
   pub led : HappensAll first happenings b
-  pub fresh : all_fresh conn_steps ≡ messages happenings
+  pub fresh : map plain (all_fresh conn_steps) ≡ map plain (messages happenings)
   pub sessions : KeepsSessions conn_steps b.desk all_connected
   -- what was accepted, and that it is what was sent
   pub accepted : Log
@@ -168,7 +181,7 @@ stepped first conn_steps all_connected old new number phase phase' input said no
     let own : SendsItsOwn adds.conn_step =
     subst (λ (place : Option GroupPlace). AllByRecursion (IsAt place) (fresh_of adds.conn_step.marks)) (sym adds.place_is)
     (subst (AllByRecursion (IsAt (place_of (connected_of phase')))) (step.hands ∙ ap fresh_of (sym adds.marks_are))
-    (sends_own step.supply_calls old new (connected_of phase') keeps.owns.running step.made step.own)) in
+    (at_under (place_of (connected_of phase')) (subscription_of (connected_of phase')) (handed step.supply_calls) (sends_own step.supply_calls old new (connected_of phase') keeps.owns.running step.made step.own))) in
     let light = all_of_both (λ (a : Accepted). IsLight a.message) keeps.accepted acts.accepted keeps.light (brought_light acts.accepted number input spelled acts.brought.each) in
     let publishes = marks_short adds.conn_step.marks (λ envelope has. known_light (keeps.accepted ++ acts.accepted) envelope light (sends_known envelope has)) in
     record {
@@ -185,7 +198,14 @@ stepped first conn_steps all_connected old new number phase phase' input said no
         happenings = keeps.happenings ++ map Called step.supply_calls;
         led = joins keeps.happenings (map Called step.supply_calls) first old new keeps.led (called step.supply_calls old new step.made);
         fresh =
-            more_fresh conn_steps adds.conn_step ∙ (λ i. keeps.fresh i ++ (ap fresh_of adds.marks_are ∙ sym step.hands) i) ∙ sym (handed_on keeps.happenings step.supply_calls);
+            ap (map plain) (more_fresh conn_steps adds.conn_step)
+            ∙ map-append plain (all_fresh conn_steps) (fresh_of adds.conn_step.marks)
+            ∙ (λ i.
+            keeps.fresh i
+            ++ (ap (λ marks. map plain (fresh_of marks)) adds.marks_are ∙ ap (map plain) (sym step.hands)
+            ∙ same_plain (subscription_of (connected_of phase')) (handed step.supply_calls)) i)
+            ∙ sym (map-append plain (messages keeps.happenings) (map (λ (h : HandOut). h.1) (handed step.supply_calls)))
+            ∙ ap (map plain) (sym (handed_on keeps.happenings step.supply_calls));
         sessions = now_keeps;
         accepted = keeps.accepted ++ acts.accepted;
         accepts =
