@@ -60,7 +60,8 @@ handed supply_calls = filter_map hand_out_of supply_calls
 abbrev pub messages_of : {P : Type 0} → List (P × Held) → List Message
 messages_of hand_outs = map (λ h. h.1.message) hand_outs
 
--- the message that a PUBLISH brings to a member, with all its properties
+-- the message that a PUBLISH brings to a member, with all the properties that stand apart from it. Of the two that are the PUBLISH's own a message has
+-- none, and `job`, by which transcripts say each PUBLISH that is sent, has none of them either
 abbrev pub brought_by : Publish → Message
 brought_by publish = record { topic = publish.topic; properties = publish.properties; payload = publish.payload }
 
