@@ -4,9 +4,9 @@ use Rattle.std.proofs.lemmas.Bool.{cases_eq, cases_lt, false≢true}
 use Rattle.std.proofs.lemmas.Option.{same_Some}
 use Rattle.dispatch_core.specs.declared.event.Job.{Job}
 use Rattle.dispatch_core.specs.declared.event.Event.{Event}
-use Rattle.dispatch_core.specs.declared.event.Event.TheVariants.{Accept, First, Ack, Refuse, Back, Again, Close}
+use Rattle.dispatch_core.specs.declared.event.Event.TheVariants.{Accept, First, Ack, Refuse, Discard, Back, Again, Close}
 use Rattle.dispatch_core.specs.declared.event.Spot.{Spot}
-use Rattle.dispatch_core.specs.declared.event.Spot.TheVariants.{Queued, Held, Acked, Refused, Returned}
+use Rattle.dispatch_core.specs.declared.event.Spot.TheVariants.{Queued, Held, Acked, Refused, Discarded, Returned}
 use Rattle.dispatch_core.specs.declared.error.Why.{Why}
 use Rattle.dispatch_core.specs.declared.error.Why.TheVariants.{Range, Closed, NotQueued, NotOldest, NotHeld, NotReturned}
 use Rattle.dispatch_core.specs.GroupState.{GroupState, spot_of, firsts_of, accepted_of, row_of, IsEmpty}
@@ -65,6 +65,12 @@ same_step one other one_new other_new (Refuse member job) same step other_step =
       firsts = λ m. other_step.made.1 m ∙ same.firsts m ∙ sym (step.made.1 m);
       mark = other_step.made.2 ∙ same.mark ∙ sym step.made.2;
     }
+same_step one other one_new other_new (Discard member job) same step other_step =
+    record {
+      spots = same_moves one other one_new other_new job job (Discarded member) refl same.spots step.made.0 other_step.made.0;
+      firsts = λ m. other_step.made.1 m ∙ same.firsts m ∙ sym (step.made.1 m);
+      mark = other_step.made.2 ∙ same.mark ∙ sym step.made.2;
+    }
 same_step one other one_new other_new (Back member job) same step other_step =
     record {
       spots = same_moves one other one_new other_new job job Returned refl same.spots step.made.0 other_step.made.0;
@@ -107,6 +113,7 @@ same_ready one other (First member job) same ready =
     (sym (same job) ∙ ready.0, λ older. ready.1 (older.0, older.1, same (record { port = job.port; number = older.0 }) ∙ older.2))
 same_ready one other (Ack member job) same ready = sym (same job) ∙ ready
 same_ready one other (Refuse member job) same ready = sym (same job) ∙ ready
+same_ready one other (Discard member job) same ready = sym (same job) ∙ ready
 same_ready one other (Back member job) same ready = sym (same job) ∙ ready
 same_ready one other (Again member job) same ready = sym (same job) ∙ ready
 same_ready one other Close same ready = tt
@@ -137,6 +144,7 @@ against state (First member job) NotQueued may hinders = hinders may.ready.0
 against state (First member job) NotOldest may hinders = may.ready.1 hinders
 against state (Ack member job) NotHeld may hinders = hinders may.ready
 against state (Refuse member job) NotHeld may hinders = hinders may.ready
+against state (Discard member job) NotHeld may hinders = hinders may.ready
 against state (Back member job) NotHeld may hinders = hinders may.ready
 against state (Again member job) NotReturned may hinders = hinders may.ready
 against state (Accept port) NotQueued may hinders = hinders
@@ -149,8 +157,11 @@ against state (Ack member job) NotQueued may hinders = hinders
 against state (Ack member job) NotOldest may hinders = hinders
 against state (Ack member job) NotReturned may hinders = hinders
 against state (Refuse member job) NotQueued may hinders = hinders
+against state (Discard member job) NotQueued may hinders = hinders
 against state (Refuse member job) NotOldest may hinders = hinders
+against state (Discard member job) NotOldest may hinders = hinders
 against state (Refuse member job) NotReturned may hinders = hinders
+against state (Discard member job) NotReturned may hinders = hinders
 against state (Back member job) NotQueued may hinders = hinders
 against state (Back member job) NotOldest may hinders = hinders
 against state (Back member job) NotReturned may hinders = hinders
@@ -168,26 +179,37 @@ same_spot Queued Queued = inl refl
 same_spot Queued (Held other) = inr (λ e. cc)
 same_spot Queued (Acked other) = inr (λ e. cc)
 same_spot Queued (Refused other) = inr (λ e. cc)
+same_spot Queued (Discarded other) = inr (λ e. cc)
 same_spot Queued Returned = inr (λ e. cc)
 same_spot (Held one) Queued = inr (λ e. cc)
 same_spot (Held one) (Held other) = ⊎_elim (λ (same : one ≡ other). inl (ap Held same)) (λ (differs : one ≢ other). inr (λ e. differs (let m : one ≡ other = cc in m))) (cases_eq one other)
 same_spot (Held one) (Acked other) = inr (λ e. cc)
 same_spot (Held one) (Refused other) = inr (λ e. cc)
+same_spot (Held one) (Discarded other) = inr (λ e. cc)
 same_spot (Held one) Returned = inr (λ e. cc)
 same_spot (Acked one) Queued = inr (λ e. cc)
 same_spot (Acked one) (Held other) = inr (λ e. cc)
 same_spot (Acked one) (Acked other) = ⊎_elim (λ (same : one ≡ other). inl (ap Acked same)) (λ (differs : one ≢ other). inr (λ e. differs (let m : one ≡ other = cc in m))) (cases_eq one other)
 same_spot (Acked one) (Refused other) = inr (λ e. cc)
+same_spot (Acked one) (Discarded other) = inr (λ e. cc)
 same_spot (Acked one) Returned = inr (λ e. cc)
 same_spot (Refused one) Queued = inr (λ e. cc)
 same_spot (Refused one) (Held other) = inr (λ e. cc)
 same_spot (Refused one) (Acked other) = inr (λ e. cc)
 same_spot (Refused one) (Refused other) = ⊎_elim (λ (same : one ≡ other). inl (ap Refused same)) (λ (differs : one ≢ other). inr (λ e. differs (let m : one ≡ other = cc in m))) (cases_eq one other)
+same_spot (Refused one) (Discarded other) = inr (λ e. cc)
 same_spot (Refused one) Returned = inr (λ e. cc)
+same_spot (Discarded one) Queued = inr (λ e. cc)
+same_spot (Discarded one) (Held other) = inr (λ e. cc)
+same_spot (Discarded one) (Acked other) = inr (λ e. cc)
+same_spot (Discarded one) (Refused other) = inr (λ e. cc)
+same_spot (Discarded one) (Discarded other) = ⊎_elim (λ (same : one ≡ other). inl (ap Discarded same)) (λ (differs : one ≢ other). inr (λ e. differs (let m : one ≡ other = cc in m))) (cases_eq one other)
+same_spot (Discarded one) Returned = inr (λ e. cc)
 same_spot Returned Queued = inr (λ e. cc)
 same_spot Returned (Held other) = inr (λ e. cc)
 same_spot Returned (Acked other) = inr (λ e. cc)
 same_spot Returned (Refused other) = inr (λ e. cc)
+same_spot Returned (Discarded other) = inr (λ e. cc)
 same_spot Returned Returned = inl refl
 
 spot_told : (o : Option Spot) (spot : Spot) → ¬ (¬ (o ≡ Some spot)) → o ≡ Some spot
@@ -204,6 +226,7 @@ range_told (Accept port) there = small_told port 64 there
 range_told (First member job) there = (small_told member 32 (λ large. there (λ range. large range.0)), small_told job.port 64 (λ large. there (λ range. large range.1)))
 range_told (Ack member job) there = (small_told member 32 (λ large. there (λ range. large range.0)), small_told job.port 64 (λ large. there (λ range. large range.1)))
 range_told (Refuse member job) there = (small_told member 32 (λ large. there (λ range. large range.0)), small_told job.port 64 (λ large. there (λ range. large range.1)))
+range_told (Discard member job) there = (small_told member 32 (λ large. there (λ range. large range.0)), small_told job.port 64 (λ large. there (λ range. large range.1)))
 range_told (Back member job) there = (small_told member 32 (λ large. there (λ range. large range.0)), small_told job.port 64 (λ large. there (λ range. large range.1)))
 range_told (Again member job) there = (small_told member 32 (λ large. there (λ range. large range.0)), small_told job.port 64 (λ large. there (λ range. large range.1)))
 range_told Close there = tt
@@ -213,6 +236,7 @@ ready_told state (Accept port) none = tt
 ready_told state (First member job) none = (spot_told (spot_of state job) Queued (none NotQueued), none NotOldest)
 ready_told state (Ack member job) none = spot_told (spot_of state job) (Held member) (none NotHeld)
 ready_told state (Refuse member job) none = spot_told (spot_of state job) (Held member) (none NotHeld)
+ready_told state (Discard member job) none = spot_told (spot_of state job) (Held member) (none NotHeld)
 ready_told state (Back member job) none = spot_told (spot_of state job) (Held member) (none NotHeld)
 ready_told state (Again member job) none = spot_told (spot_of state job) Returned (none NotReturned)
 ready_told state Close none = tt

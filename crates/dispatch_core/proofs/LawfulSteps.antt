@@ -5,9 +5,9 @@ use Rattle.std.proofs.lemmas.List.Elements.{Contains-get_or, Contains-push_cases
 use Rattle.std.proofs.lemmas.List.Quantifiers.{all_pairs_push}
 use Rattle.dispatch_core.specs.declared.event.Job.{Job}
 use Rattle.dispatch_core.specs.declared.event.Event.{Event}
-use Rattle.dispatch_core.specs.declared.event.Event.TheVariants.{Accept, First, Ack, Refuse, Back, Again, Close}
+use Rattle.dispatch_core.specs.declared.event.Event.TheVariants.{Accept, First, Ack, Refuse, Discard, Back, Again, Close}
 use Rattle.dispatch_core.specs.declared.event.Spot.{Spot}
-use Rattle.dispatch_core.specs.declared.event.Spot.TheVariants.{Queued, Held, Acked, Refused, Returned}
+use Rattle.dispatch_core.specs.declared.event.Spot.TheVariants.{Queued, Held, Acked, Refused, Discarded, Returned}
 use Rattle.dispatch_core.specs.GroupState.{GroupState, spot_of, firsts_of, accepted_of, row_of, IsEmpty}
 use Rattle.dispatch_core.specs.Step.{Moves, HandsOut, KeepsFirsts, KeepsSpots, HasOlderQueued, Step, next_job}
 use Rattle.dispatch_core.specs.Lawful.{IsLawful, RisesByPort, StandsOnce, HasOneFirst}
@@ -278,6 +278,7 @@ lawful_step old new (Accept port) lawful step = lawful_accepted old new port law
 lawful_step old new (First member job) lawful step = lawful_handed_out old new member job lawful step.may.in_range.0 step.may.ready.0 step.may.ready.1 step.made.0 step.made.1
 lawful_step old new (Ack member job) lawful step = lawful_moved old new job (Acked member) lawful (some_there _ _ step.may.ready) (held_unqueued _ member step.may.ready) (λ e. cc) step.made.0 step.made.1
 lawful_step old new (Refuse member job) lawful step = lawful_moved old new job (Refused member) lawful (some_there _ _ step.may.ready) (held_unqueued _ member step.may.ready) (λ e. cc) step.made.0 step.made.1
+lawful_step old new (Discard member job) lawful step = lawful_moved old new job (Discarded member) lawful (some_there _ _ step.may.ready) (held_unqueued _ member step.may.ready) (λ e. cc) step.made.0 step.made.1
 lawful_step old new (Back member job) lawful step = lawful_moved old new job Returned lawful (some_there _ _ step.may.ready) (held_unqueued _ member step.may.ready) (λ e. cc) step.made.0 step.made.1
 lawful_step old new (Again member job) lawful step = lawful_moved old new job (Held member) lawful (some_there _ _ step.may.ready) (returned_unqueued _ step.may.ready) (λ e. cc) step.made.0 step.made.1
 lawful_step old new Close lawful step = lawful_same old new lawful step.made.0 step.made.1

@@ -7,9 +7,9 @@ use Rattle.std.proofs.lemmas.List.Sums.{sum_by-cons}
 use Rattle.std.proofs.lemmas.Option.{slice_get_past, same_Some}
 use Rattle.dispatch_core.specs.declared.event.Job.{Job}
 use Rattle.dispatch_core.specs.declared.event.Event.{Event}
-use Rattle.dispatch_core.specs.declared.event.Event.TheVariants.{Accept, First, Ack, Refuse, Back, Again, Close}
+use Rattle.dispatch_core.specs.declared.event.Event.TheVariants.{Accept, First, Ack, Refuse, Discard, Back, Again, Close}
 use Rattle.dispatch_core.specs.declared.event.Spot.{Spot}
-use Rattle.dispatch_core.specs.declared.event.Spot.TheVariants.{Queued, Held, Acked, Refused, Returned}
+use Rattle.dispatch_core.specs.declared.event.Spot.TheVariants.{Queued, Held, Acked, Refused, Discarded, Returned}
 use Rattle.dispatch_core.specs.GroupState.{GroupState, spot_of, firsts_of, accepted_of, row_of}
 use Rattle.dispatch_core.specs.Step.{Moves, Step, NeedsOpen, next_job}
 use Rattle.dispatch_core.specs.History.{Leads, IsRun}
@@ -101,6 +101,7 @@ count_step old new (Accept other) port step =
 count_step old new (First member job) port step = same_count old new job (Held member) port (some_there _ _ step.may.ready.0) step.made.0 ∙ sym (zero-add (accepted_of old port))
 count_step old new (Ack member job) port step = same_count old new job (Acked member) port (some_there _ _ step.may.ready) step.made.0 ∙ sym (zero-add (accepted_of old port))
 count_step old new (Refuse member job) port step = same_count old new job (Refused member) port (some_there _ _ step.may.ready) step.made.0 ∙ sym (zero-add (accepted_of old port))
+count_step old new (Discard member job) port step = same_count old new job (Discarded member) port (some_there _ _ step.may.ready) step.made.0 ∙ sym (zero-add (accepted_of old port))
 count_step old new (Back member job) port step = same_count old new job Returned port (some_there _ _ step.may.ready) step.made.0 ∙ sym (zero-add (accepted_of old port))
 count_step old new (Again member job) port step = same_count old new job (Held member) port (some_there _ _ step.may.ready) step.made.0 ∙ sym (zero-add (accepted_of old port))
 count_step old new Close port step = same_all old new port step.made.0 ∙ sym (zero-add (accepted_of old port))
@@ -134,6 +135,9 @@ settled_step old new (Ack member other) job spot unqueued unheld unreturned ther
 settled_step old new (Refuse member other) job spot unqueued unheld unreturned there step =
     let differs : job ≢ other = λ same. unheld member (same_Some _ _ (sym there ∙ ap (spot_of old) same ∙ step.may.ready)) in
     (λ h. h, step.made.0.others job differs ∙ there)
+settled_step old new (Discard member other) job spot unqueued unheld unreturned there step =
+    let differs : job ≢ other = λ same. unheld member (same_Some _ _ (sym there ∙ ap (spot_of old) same ∙ step.may.ready)) in
+    (λ h. h, step.made.0.others job differs ∙ there)
 settled_step old new (Back member other) job spot unqueued unheld unreturned there step =
     let differs : job ≢ other = λ same. unheld member (same_Some _ _ (sym there ∙ ap (spot_of old) same ∙ step.may.ready)) in
     (λ h. h, step.made.0.others job differs ∙ there)
@@ -154,6 +158,11 @@ refused_run before behind member job state run =
     let parts = leads_append run.start state before (Refuse member job ∷ behind) run.steps in
     settled_leads parts.2.0 state behind job (Refused member) (λ e. cc) (λ holder e. cc) (λ e. cc) parts.2.1.made.0.there parts.2.2
 
+pub discarded_run : (before behind : List Event) (member : ℕ) (job : Job) (state : GroupState) → IsRun (before ++ Discard member job ∷ behind) state → All (λ event. ¬ HandsOutJob job event) behind × (spot_of state job ≡ Some (Discarded member))
+discarded_run before behind member job state run =
+    let parts = leads_append run.start state before (Discard member job ∷ behind) run.steps in
+    settled_leads parts.2.0 state behind job (Discarded member) (λ e. cc) (λ holder e. cc) (λ e. cc) parts.2.1.made.0.there parts.2.2
+
 pub acked_run : (before behind : List Event) (member : ℕ) (job : Job) (state : GroupState) → IsRun (before ++ Ack member job ∷ behind) state → All (λ event. ¬ HandsOutJob job event) behind × (spot_of state job ≡ Some (Acked member))
 acked_run before behind member job state run =
     let parts = leads_append run.start state before (Ack member job ∷ behind) run.steps in
@@ -165,6 +174,7 @@ mark_kept old new (Accept port) other step = step.made.2
 mark_kept old new (First member job) other step = step.made.2
 mark_kept old new (Ack member job) other step = step.made.2
 mark_kept old new (Refuse member job) other step = step.made.2
+mark_kept old new (Discard member job) other step = step.made.2
 mark_kept old new (Back member job) other step = step.made.2
 mark_kept old new (Again member job) other step = step.made.2
 mark_kept old new Close other step = absurd (other refl)
@@ -174,6 +184,7 @@ closed_step old new (Accept port) closed step = step.made.2 ∙ closed
 closed_step old new (First member job) closed step = step.made.2 ∙ closed
 closed_step old new (Ack member job) closed step = step.made.2 ∙ closed
 closed_step old new (Refuse member job) closed step = step.made.2 ∙ closed
+closed_step old new (Discard member job) closed step = step.made.2 ∙ closed
 closed_step old new (Back member job) closed step = step.made.2 ∙ closed
 closed_step old new (Again member job) closed step = step.made.2 ∙ closed
 closed_step old new Close closed step = step.made.2
@@ -195,6 +206,7 @@ job_kept old new (Accept port) job other step = step.made.0.others job (λ same.
 job_kept old new (First member moved) job other step = step.made.0.others job (λ same. other (ap Some (sym same)))
 job_kept old new (Ack member moved) job other step = step.made.0.others job (λ same. other (ap Some (sym same)))
 job_kept old new (Refuse member moved) job other step = step.made.0.others job (λ same. other (ap Some (sym same)))
+job_kept old new (Discard member moved) job other step = step.made.0.others job (λ same. other (ap Some (sym same)))
 job_kept old new (Back member moved) job other step = step.made.0.others job (λ same. other (ap Some (sym same)))
 job_kept old new (Again member moved) job other step = step.made.0.others job (λ same. other (ap Some (sym same)))
 job_kept old new Close job other step = step.made.0 job
@@ -204,6 +216,7 @@ firsts_kept old new (Accept port) member other step = step.made.1 member
 firsts_kept old new (First taker job) member other step = step.made.1.others member (λ same. other (ap Some (sym same)))
 firsts_kept old new (Ack holder job) member other step = step.made.1 member
 firsts_kept old new (Refuse holder job) member other step = step.made.1 member
+firsts_kept old new (Discard holder job) member other step = step.made.1 member
 firsts_kept old new (Back holder job) member other step = step.made.1 member
 firsts_kept old new (Again taker job) member other step = step.made.1 member
 firsts_kept old new Close member other step = step.made.1 member

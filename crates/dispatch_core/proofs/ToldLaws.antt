@@ -5,7 +5,7 @@ use Rattle.std.proofs.lemmas.List.Elements.{All-head, All-tail}
 use Rattle.std.proofs.lemmas.Option.{slice_get_past, same_Some}
 use Rattle.dispatch_core.specs.declared.event.Job.{Job}
 use Rattle.dispatch_core.specs.declared.event.Event.{Event}
-use Rattle.dispatch_core.specs.declared.event.Event.TheVariants.{Accept, First, Ack, Refuse, Back, Again, Close}
+use Rattle.dispatch_core.specs.declared.event.Event.TheVariants.{Accept, First, Ack, Refuse, Discard, Back, Again, Close}
 use Rattle.dispatch_core.specs.GroupState.{GroupState, spot_of, firsts_of, accepted_of, row_of}
 use Rattle.dispatch_core.specs.Step.{Step, next_job}
 use Rattle.dispatch_core.specs.History.{Leads, IsRun}
@@ -32,6 +32,7 @@ firsts_step old new (First taker job) member step =
     (cases_eq taker member)
 firsts_step old new (Ack holder job) member step = step.made.1 member ∙ sym (append-nil (firsts_of old member))
 firsts_step old new (Refuse holder job) member step = step.made.1 member ∙ sym (append-nil (firsts_of old member))
+firsts_step old new (Discard holder job) member step = step.made.1 member ∙ sym (append-nil (firsts_of old member))
 firsts_step old new (Back holder job) member step = step.made.1 member ∙ sym (append-nil (firsts_of old member))
 firsts_step old new (Again taker job) member step = step.made.1 member ∙ sym (append-nil (firsts_of old member))
 firsts_step old new Close member step = step.made.1 member ∙ sym (append-nil (firsts_of old member))
@@ -55,6 +56,7 @@ unnamed_step old new (Accept port) job some unnamed step =
 unnamed_step old new (First member other) job some unnamed step = step.made.0.others job (λ same. unnamed (ap Some (sym same)))
 unnamed_step old new (Ack member other) job some unnamed step = step.made.0.others job (λ same. unnamed (ap Some (sym same)))
 unnamed_step old new (Refuse member other) job some unnamed step = step.made.0.others job (λ same. unnamed (ap Some (sym same)))
+unnamed_step old new (Discard member other) job some unnamed step = step.made.0.others job (λ same. unnamed (ap Some (sym same)))
 unnamed_step old new (Back member other) job some unnamed step = step.made.0.others job (λ same. unnamed (ap Some (sym same)))
 unnamed_step old new (Again member other) job some unnamed step = step.made.0.others job (λ same. unnamed (ap Some (sym same)))
 unnamed_step old new Close job some unnamed step = step.made.0 job
@@ -75,6 +77,7 @@ spot_step before old new (Accept port) job run about step =
 spot_step before old new (First member other) job run about step = let there = ap (spot_of new) (sym (same_Some other job about)) ∙ step.made.0.there in (there, some_there _ _ there)
 spot_step before old new (Ack member other) job run about step = let there = ap (spot_of new) (sym (same_Some other job about)) ∙ step.made.0.there in (there, some_there _ _ there)
 spot_step before old new (Refuse member other) job run about step = let there = ap (spot_of new) (sym (same_Some other job about)) ∙ step.made.0.there in (there, some_there _ _ there)
+spot_step before old new (Discard member other) job run about step = let there = ap (spot_of new) (sym (same_Some other job about)) ∙ step.made.0.there in (there, some_there _ _ there)
 spot_step before old new (Back member other) job run about step = let there = ap (spot_of new) (sym (same_Some other job about)) ∙ step.made.0.there in (there, some_there _ _ there)
 spot_step before old new (Again member other) job run about step = let there = ap (spot_of new) (sym (same_Some other job about)) ∙ step.made.0.there in (there, some_there _ _ there)
 spot_step before old new Close job run about step = absurd (false≢true (ap is_some about))

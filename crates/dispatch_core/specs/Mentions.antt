@@ -2,7 +2,7 @@
 use Rattle.std.specs.Prelude.{◌≡◌, ℕ, ◌==◌, Bool, false, List, Option, Some, None, count_by}
 use Rattle.dispatch_core.specs.declared.event.Job.{Job}
 use Rattle.dispatch_core.specs.declared.event.Event.{Event}
-use Rattle.dispatch_core.specs.declared.event.Event.TheVariants.{Accept, First, Ack, Refuse, Back, Again, Close}
+use Rattle.dispatch_core.specs.declared.event.Event.TheVariants.{Accept, First, Ack, Refuse, Discard, Back, Again, Close}
 use Rattle.dispatch_core.specs.GroupState.{GroupState}
 use Rattle.dispatch_core.specs.Step.{next_job, KeepsSpots, KeepsFirsts, KeepsMark}
 
@@ -12,6 +12,7 @@ job_of state (Accept port) = Some (next_job state port)
 job_of state (First member job) = Some job
 job_of state (Ack member job) = Some job
 job_of state (Refuse member job) = Some job
+job_of state (Discard member job) = Some job
 job_of state (Back member job) = Some job
 job_of state (Again member job) = Some job
 job_of state Close = None
@@ -22,6 +23,7 @@ first_member_of (Accept port) = None
 first_member_of (First member job) = Some member
 first_member_of (Ack member job) = None
 first_member_of (Refuse member job) = None
+first_member_of (Discard member job) = None
 first_member_of (Back member job) = None
 first_member_of (Again member job) = None
 first_member_of Close = None
@@ -32,6 +34,7 @@ named_job (Accept port) = None
 named_job (First member job) = Some job
 named_job (Ack member job) = Some job
 named_job (Refuse member job) = Some job
+named_job (Discard member job) = Some job
 named_job (Back member job) = Some job
 named_job (Again member job) = Some job
 named_job Close = None
@@ -42,6 +45,7 @@ named_member (Accept port) = None
 named_member (First member job) = Some member
 named_member (Ack member job) = Some member
 named_member (Refuse member job) = Some member
+named_member (Discard member job) = Some member
 named_member (Back member job) = Some member
 named_member (Again member job) = Some member
 named_member Close = None
@@ -52,6 +56,7 @@ HandsOutJob job (Accept port) = ⊥
 HandsOutJob job (First member other) = other ≡ job
 HandsOutJob job (Ack member other) = ⊥
 HandsOutJob job (Refuse member other) = ⊥
+HandsOutJob job (Discard member other) = ⊥
 HandsOutJob job (Back member other) = ⊥
 HandsOutJob job (Again member other) = other ≡ job
 HandsOutJob job Close = ⊥
@@ -62,6 +67,7 @@ is_accept port (Accept other) = other == port
 is_accept port (First member job) = false
 is_accept port (Ack member job) = false
 is_accept port (Refuse member job) = false
+is_accept port (Discard member job) = false
 is_accept port (Back member job) = false
 is_accept port (Again member job) = false
 is_accept port Close = false

@@ -1,7 +1,7 @@
 -- Why an event may not happen: of several reasons the first counts.
 use Rattle.std.specs.Prelude.{◌≡◌, ℕ, ◌<◌, true, Some}
 use Rattle.dispatch_core.specs.declared.event.Event.{Event}
-use Rattle.dispatch_core.specs.declared.event.Event.TheVariants.{Accept, First, Ack, Refuse, Back, Again, Close}
+use Rattle.dispatch_core.specs.declared.event.Event.TheVariants.{Accept, First, Ack, Refuse, Discard, Back, Again, Close}
 use Rattle.dispatch_core.specs.declared.event.Spot.TheVariants.{Queued, Held, Returned}
 use Rattle.dispatch_core.specs.declared.error.Why.{Why}
 use Rattle.dispatch_core.specs.declared.error.Why.TheVariants.{Range, Closed, NotQueued, NotOldest, NotHeld, NotReturned}
@@ -18,6 +18,7 @@ Hinders state (First member job) NotQueued = ¬ (spot_of state job ≡ Some Queu
 Hinders state (First member job) NotOldest = HasOlderQueued state job
 Hinders state (Ack member job) NotHeld = ¬ (spot_of state job ≡ Some (Held member))
 Hinders state (Refuse member job) NotHeld = ¬ (spot_of state job ≡ Some (Held member))
+Hinders state (Discard member job) NotHeld = ¬ (spot_of state job ≡ Some (Held member))
 Hinders state (Back member job) NotHeld = ¬ (spot_of state job ≡ Some (Held member))
 Hinders state (Again member job) NotReturned = ¬ (spot_of state job ≡ Some Returned)
 Hinders state event why = ⊥
@@ -47,6 +48,7 @@ TakesMemory (Accept port) = Unit {0}
 TakesMemory (First member job) = Unit {0}
 TakesMemory (Ack member job) = ⊥
 TakesMemory (Refuse member job) = ⊥
+TakesMemory (Discard member job) = ⊥
 TakesMemory (Back member job) = ⊥
 TakesMemory (Again member job) = ⊥
 TakesMemory Close = ⊥

@@ -2,9 +2,9 @@
 use Rattle.std.specs.Prelude.{◌≡◌, ◌≢◌, ℕ, ◌<◌, true, false, [], ◌∷◌, ◌++◌, Some}
 use Rattle.dispatch_core.specs.declared.event.Job.{Job}
 use Rattle.dispatch_core.specs.declared.event.Event.{Event}
-use Rattle.dispatch_core.specs.declared.event.Event.TheVariants.{Accept, First, Ack, Refuse, Back, Again, Close}
+use Rattle.dispatch_core.specs.declared.event.Event.TheVariants.{Accept, First, Ack, Refuse, Discard, Back, Again, Close}
 use Rattle.dispatch_core.specs.declared.event.Spot.{Spot}
-use Rattle.dispatch_core.specs.declared.event.Spot.TheVariants.{Queued, Held, Acked, Refused, Returned}
+use Rattle.dispatch_core.specs.declared.event.Spot.TheVariants.{Queued, Held, Acked, Refused, Discarded, Returned}
 use Rattle.dispatch_core.specs.GroupState.{GroupState, spot_of, accepted_of, firsts_of}
 
 -- the ports are 0 to 63 and the members 0 to 31 (profile)
@@ -16,6 +16,7 @@ IsInRange (Accept port) = port < 64
 IsInRange (First member job) = AreInRange member job
 IsInRange (Ack member job) = AreInRange member job
 IsInRange (Refuse member job) = AreInRange member job
+IsInRange (Discard member job) = AreInRange member job
 IsInRange (Back member job) = AreInRange member job
 IsInRange (Again member job) = AreInRange member job
 IsInRange Close = Unit {0}
@@ -26,6 +27,7 @@ NeedsOpen (Accept port) = Unit {0}
 NeedsOpen (First member job) = Unit {0}
 NeedsOpen (Ack member job) = ⊥
 NeedsOpen (Refuse member job) = ⊥
+NeedsOpen (Discard member job) = ⊥
 NeedsOpen (Back member job) = ⊥
 NeedsOpen (Again member job) = Unit {0}
 NeedsOpen Close = ⊥
@@ -35,12 +37,13 @@ abbrev pub HasOlderQueued : GroupState → Job → Type 0
 HasOlderQueued state job = (number : ℕ) × (number < job.number) × (spot_of state (record { port = job.port; number = number }) ≡ Some Queued)
 
 -- what an event asks of its job: a first hand-out takes the oldest queued job of its port (4.6), a job is acknowledged,
--- refused or given back by the member that holds it, and what is handed out again was given back
+-- refused or given back by the member that holds it, or discarded on its behalf, and what is handed out again was given back
 abbrev pub IsReady : GroupState → Event → Type 0
 IsReady state (Accept port) = Unit {0}
 IsReady state (First member job) = (spot_of state job ≡ Some Queued) × ¬ HasOlderQueued state job
 IsReady state (Ack member job) = spot_of state job ≡ Some (Held member)
 IsReady state (Refuse member job) = spot_of state job ≡ Some (Held member)
+IsReady state (Discard member job) = spot_of state job ≡ Some (Held member)
 IsReady state (Back member job) = spot_of state job ≡ Some (Held member)
 IsReady state (Again member job) = spot_of state job ≡ Some Returned
 IsReady state Close = Unit {0}
@@ -80,6 +83,7 @@ Makes old (Accept port) new = Moves old (next_job old port) Queued new × KeepsF
 Makes old (First member job) new = Moves old job (Held member) new × HandsOut old member job new × KeepsMark old new
 Makes old (Ack member job) new = Moves old job (Acked member) new × KeepsFirsts old new × KeepsMark old new
 Makes old (Refuse member job) new = Moves old job (Refused member) new × KeepsFirsts old new × KeepsMark old new
+Makes old (Discard member job) new = Moves old job (Discarded member) new × KeepsFirsts old new × KeepsMark old new
 Makes old (Back member job) new = Moves old job Returned new × KeepsFirsts old new × KeepsMark old new
 Makes old (Again member job) new = Moves old job (Held member) new × KeepsFirsts old new × KeepsMark old new
 Makes old Close new = KeepsSpots old new × KeepsFirsts old new × (new.closed ≡ true)

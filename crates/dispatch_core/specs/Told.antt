@@ -3,9 +3,9 @@ use Rattle.std.specs.Prelude.{◌≢◌, ℕ, ◌==◌, if◌then◌else◌, Lis
 use Rattle.std.specs.List.{flat_map}
 use Rattle.dispatch_core.specs.declared.event.Job.{Job}
 use Rattle.dispatch_core.specs.declared.event.Event.{Event}
-use Rattle.dispatch_core.specs.declared.event.Event.TheVariants.{Accept, First, Ack, Refuse, Back, Again, Close}
+use Rattle.dispatch_core.specs.declared.event.Event.TheVariants.{Accept, First, Ack, Refuse, Discard, Back, Again, Close}
 use Rattle.dispatch_core.specs.declared.event.Spot.{Spot}
-use Rattle.dispatch_core.specs.declared.event.Spot.TheVariants.{Queued, Held, Acked, Refused, Returned}
+use Rattle.dispatch_core.specs.declared.event.Spot.TheVariants.{Queued, Held, Acked, Refused, Discarded, Returned}
 use Rattle.dispatch_core.specs.Mentions.{named_job, accepts_of}
 
 -- the job that an event hands to this member for the first time, if it does
@@ -14,6 +14,7 @@ first_to member (Accept port) = []
 first_to member (First other job) = if other == member then job ∷ [] else []
 first_to member (Ack other job) = []
 first_to member (Refuse other job) = []
+first_to member (Discard other job) = []
 first_to member (Back other job) = []
 first_to member (Again other job) = []
 first_to member Close = []
@@ -33,6 +34,7 @@ spot_after (Accept port) = Some Queued
 spot_after (First member job) = Some (Held member)
 spot_after (Ack member job) = Some (Acked member)
 spot_after (Refuse member job) = Some (Refused member)
+spot_after (Discard member job) = Some (Discarded member)
 spot_after (Back member job) = Some Returned
 spot_after (Again member job) = Some (Held member)
 spot_after Close = None

@@ -23,7 +23,7 @@ pub enum Why {
     /// A first hand-out of a job while an older one of its port is queued.
     #[error("an older job of the port is queued")]
     NotOldest,
-    /// The member acknowledges, refuses or returns a job that it does not hold.
+    /// A job is acknowledged, refused, discarded or returned of a member that does not hold it.
     #[error("the member does not hold the job")]
     NotHeld,
     /// A job is handed out again that was not returned.

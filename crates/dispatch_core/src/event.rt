@@ -31,6 +31,9 @@ pub enum Event {
     /// A member refuses a job that it holds: a PUBACK with a reason code of 0x80 or greater. Nobody else
     /// is handed the job (4.8.2).
     Refuse { member: u8, job: Job },
+    /// A member is not sent a job that it was handed: it is too late or too long for it. Nobody else is
+    /// handed the job (3.3.2.3.3, 3.1.2.11.4).
+    Discard { member: u8, job: Job },
     /// A job goes back from a member whose session ended (4.8.2).
     Back { member: u8, job: Job },
     /// A member is handed a job that went back. Such hand-outs are in no order.
@@ -50,6 +53,8 @@ pub enum Spot {
     Acked(u8),
     /// This member refused it. That is for good.
     Refused(u8),
+    /// It was discarded, and this member not sent it. That is for good.
+    Discarded(u8),
     /// It went back from a member, and nobody holds it.
     Returned,
 }
@@ -64,6 +69,7 @@ impl Event {
             Event::First { job, .. }
             | Event::Ack { job, .. }
             | Event::Refuse { job, .. }
+            | Event::Discard { job, .. }
             | Event::Back { job, .. }
             | Event::Again { job, .. } => Some(job),
         }
@@ -78,6 +84,7 @@ impl Event {
             Event::First { member, .. }
             | Event::Ack { member, .. }
             | Event::Refuse { member, .. }
+            | Event::Discard { member, .. }
             | Event::Back { member, .. }
             | Event::Again { member, .. } => Some(member),
         }
@@ -92,6 +99,7 @@ impl Event {
             Event::First { member, job }
             | Event::Ack { member, job }
             | Event::Refuse { member, job }
+            | Event::Discard { member, job }
             | Event::Back { member, job }
             | Event::Again { member, job } => member < MEMBERS && job.port < PORTS,
             Event::Close => true,

@@ -29,11 +29,15 @@ pub fn lawful_law()
 {}
 
 /// **A fate is for good.** A job that was refused goes to nobody else: no hand-out of it, for the first
-/// time or again, follows (4.8.2). The same holds of one that was acknowledged. Each stays where it is.
+/// time or again, follows (4.8.2). The same holds of one that was discarded (3.3.2.3.3, 3.1.2.11.4), and of
+/// one that was acknowledged. Each stays where it is.
 pub fn fate_law()
     ensures refused { (before behind : List Event) (member : ℕ) (job : Job) (state : GroupState) →
         IsRun (before ++ Event.Refuse member job ∷ behind) state →
         All (λ later. ¬ HandsOutJob job later) behind × (spot_of state job ≡ Some (Spot.Refused member)) }
+    ensures discarded { (before behind : List Event) (member : ℕ) (job : Job) (state : GroupState) →
+        IsRun (before ++ Event.Discard member job ∷ behind) state →
+        All (λ later. ¬ HandsOutJob job later) behind × (spot_of state job ≡ Some (Spot.Discarded member)) }
     ensures acknowledged { (before behind : List Event) (member : ℕ) (job : Job) (state : GroupState) →
         IsRun (before ++ Event.Ack member job ∷ behind) state →
         All (λ later. ¬ HandsOutJob job later) behind × (spot_of state job ≡ Some (Spot.Acked member)) }

@@ -2,9 +2,9 @@
 //! lead to, and the laws that hold of every list of events.
 //!
 //! A group accepts jobs through ports, and hands each to one of its members (OASIS MQTT 5.0, 4.8.2).
-//! A job waits in its port's queue, is held by a member, and is acknowledged or refused for good, or
-//! is returned by a session that ended and handed out again. The first hand-outs of a port's jobs go in
-//! their order (4.6).
+//! A job waits in its port's queue, is held by a member, and is acknowledged, refused or discarded for
+//! good, or is returned by a session that ended and handed out again. The first hand-outs of a port's
+//! jobs go in their order (4.6).
 //!
 //! [`replay`] follows a list of events from the beginning and succeeds exactly where each may happen;
 //! [`State::step`] does one event. A list of events that may happen is called a run of the group. The

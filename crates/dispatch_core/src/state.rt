@@ -74,6 +74,7 @@ impl State {
             Event::First { member, job } => self.hand_out(member, job)?,
             Event::Ack { member, job } => self.put(job, Spot::Acked(member)),
             Event::Refuse { member, job } => self.put(job, Spot::Refused(member)),
+            Event::Discard { member, job } => self.put(job, Spot::Discarded(member)),
             Event::Back { job, .. } => self.put(job, Spot::Returned),
             Event::Again { member, job } => self.put(job, Spot::Held(member)),
             Event::Close => self.closed = true,
@@ -174,6 +175,7 @@ impl State {
             Event::First { job, .. } => self.ports[usize::from(job.port)].check_oldest(job.number),
             Event::Ack { member, job }
             | Event::Refuse { member, job }
+            | Event::Discard { member, job }
             | Event::Back { member, job } => match self.spot(job) {
                 Some(Spot::Held(holder)) if holder == member => Ok(()),
                 _ => Err(Why::NotHeld),
