@@ -3,7 +3,7 @@ use Rattle.std.proofs.Common.{◌≡◌, ℕ, ◌+◌, ◌≤◌, Bool, true, fa
 use Rattle.std.proofs.lemmas.Bool.{ltb-true, ltb-false}
 use Rattle.dispatch_core.specs.declared.event.Job.{Job}
 use Rattle.dispatch_core.specs.declared.event.Spot.{Spot}
-use Rattle.dispatch_core.specs.declared.event.Spot.TheVariants.{Queued, Held, Acked, Refused, Returned}
+use Rattle.dispatch_core.specs.declared.event.Spot.TheVariants.{Queued, Held, Acked, Refused, Discarded, Returned}
 use Rattle.dispatch_core.specs.JobRuns.{count_of}
 use Rattle.group_jobs.specs.declared.fate.Fate.{Fate}
 use Rattle.group_jobs.specs.declared.fate.Fate.TheVariants as fate
@@ -32,8 +32,11 @@ module _ (accounts : List Account) (report : Report) (adds : AddsUp accounts rep
   refused : ℕ
   refused = count_of job (settled_as fate.Refused report.settled)
 
-  total : acked + refused + count_of job report.held.items + count_of job report.queued.items + count_of job report.returned.items ≡ times_accepted report.accepted.items job
-  unfolding acked refused
+  discarded : ℕ
+  discarded = count_of job (settled_as fate.Discarded report.settled)
+
+  total : acked + refused + discarded + count_of job report.held.items + count_of job report.queued.items + count_of job report.returned.items ≡ times_accepted report.accepted.items job
+  unfolding acked refused discarded
   total = omega (arith, one_fate accounts report adds job)
 
   -- what the report does not have no place has
@@ -48,8 +51,12 @@ module _ (accounts : List Account) (report : Report) (adds : AddsUp accounts rep
   unfolding refused
   none_refused none a here = omega (arith, none, adds.settled fate.Refused job, le_sum (λ (b : Account). b.settled fate.Refused job) accounts a here)
 
+  none_discarded : discarded ≡ 0 → (a : Account) → Contains accounts a → a.settled fate.Discarded job ≡ 0
+  unfolding discarded
+  none_discarded none a here = omega (arith, none, adds.settled fate.Discarded job, le_sum (λ (b : Account). b.settled fate.Discarded job) accounts a here)
+
   pub nowhere : times_accepted report.accepted.items job ≡ 0 → Agree accounts report job None
-  unfolding acked refused
+  unfolding acked refused discarded
   nowhere zero = record {
     settled = each;
     held = omega (arith, total, zero);
@@ -62,14 +69,16 @@ module _ (accounts : List Account) (report : Report) (adds : AddsUp accounts rep
       each : (which : Fate) → count_of job (settled_as which report.settled) ≡ times_settled which None
       each fate.Acknowledged = omega (arith, total, zero)
       each fate.Refused = omega (arith, total, zero)
+      each fate.Discarded = omega (arith, total, zero)
 
       by : (a : Account) → Contains accounts a → (which : Fate) → a.settled which job ≡ times_settled_by a.place which None
       by a here fate.Acknowledged = none_acked (omega (arith, total, zero)) a here
       by a here fate.Refused = none_refused (omega (arith, total, zero)) a here
+      by a here fate.Discarded = none_discarded (omega (arith, total, zero)) a here
 
   module _ (one : times_accepted report.accepted.items job ≡ 1) where
     is_queued : 1 ≤ count_of job report.queued.items → Agree accounts report job (Some Queued)
-    unfolding acked refused
+    unfolding acked refused discarded
     is_queued some = record {
       settled = each;
       held = omega (arith, total, one, some);
@@ -82,13 +91,15 @@ module _ (accounts : List Account) (report : Report) (adds : AddsUp accounts rep
         each : (which : Fate) → count_of job (settled_as which report.settled) ≡ times_settled which (Some Queued)
         each fate.Acknowledged = omega (arith, total, one, some)
         each fate.Refused = omega (arith, total, one, some)
+        each fate.Discarded = omega (arith, total, one, some)
 
         by : (a : Account) → Contains accounts a → (which : Fate) → a.settled which job ≡ times_settled_by a.place which (Some Queued)
         by a here fate.Acknowledged = none_acked (omega (arith, total, one, some)) a here
         by a here fate.Refused = none_refused (omega (arith, total, one, some)) a here
+        by a here fate.Discarded = none_discarded (omega (arith, total, one, some)) a here
 
     is_returned : 1 ≤ count_of job report.returned.items → Agree accounts report job (Some Returned)
-    unfolding acked refused
+    unfolding acked refused discarded
     is_returned some = record {
       settled = each;
       held = omega (arith, total, one, some);
@@ -101,13 +112,15 @@ module _ (accounts : List Account) (report : Report) (adds : AddsUp accounts rep
         each : (which : Fate) → count_of job (settled_as which report.settled) ≡ times_settled which (Some Returned)
         each fate.Acknowledged = omega (arith, total, one, some)
         each fate.Refused = omega (arith, total, one, some)
+        each fate.Discarded = omega (arith, total, one, some)
 
         by : (a : Account) → Contains accounts a → (which : Fate) → a.settled which job ≡ times_settled_by a.place which (Some Returned)
         by a here fate.Acknowledged = none_acked (omega (arith, total, one, some)) a here
         by a here fate.Refused = none_refused (omega (arith, total, one, some)) a here
+        by a here fate.Discarded = none_discarded (omega (arith, total, one, some)) a here
 
     is_held : (x : Account) → Contains accounts x → 1 ≤ count_of job x.out → Agree accounts report job (Some (Held x.place))
-    unfolding acked refused
+    unfolding acked refused discarded
     is_held x there some = record {
       settled = each;
       held = omega (arith, total, one, enough);
@@ -123,13 +136,15 @@ module _ (accounts : List Account) (report : Report) (adds : AddsUp accounts rep
         each : (which : Fate) → count_of job (settled_as which report.settled) ≡ times_settled which (Some (Held x.place))
         each fate.Acknowledged = omega (arith, total, one, enough)
         each fate.Refused = omega (arith, total, one, enough)
+        each fate.Discarded = omega (arith, total, one, enough)
 
         by : (a : Account) → Contains accounts a → (which : Fate) → a.settled which job ≡ times_settled_by a.place which (Some (Held x.place))
         by a here fate.Acknowledged = none_acked (omega (arith, total, one, enough)) a here
         by a here fate.Refused = none_refused (omega (arith, total, one, enough)) a here
+        by a here fate.Discarded = none_discarded (omega (arith, total, one, enough)) a here
 
     is_acked : (x : Account) → Contains accounts x → 1 ≤ x.settled fate.Acknowledged job → Agree accounts report job (Some (Acked x.place))
-    unfolding acked refused
+    unfolding acked refused discarded
     is_acked x there some = record {
       settled = each;
       held = omega (arith, total, one, enough);
@@ -145,13 +160,15 @@ module _ (accounts : List Account) (report : Report) (adds : AddsUp accounts rep
         each : (which : Fate) → count_of job (settled_as which report.settled) ≡ times_settled which (Some (Acked x.place))
         each fate.Acknowledged = omega (arith, total, one, enough)
         each fate.Refused = omega (arith, total, one, enough)
+        each fate.Discarded = omega (arith, total, one, enough)
 
         by : (a : Account) → Contains accounts a → (which : Fate) → a.settled which job ≡ times_settled_by a.place which (Some (Acked x.place))
         by a here fate.Acknowledged = at_one (λ (b : Account). b.settled fate.Acknowledged job) accounts orderly.apart x a there some (omega (arith, total, one, enough, adds.settled fate.Acknowledged job)) here
         by a here fate.Refused = none_refused (omega (arith, total, one, enough)) a here
+        by a here fate.Discarded = none_discarded (omega (arith, total, one, enough)) a here
 
     is_refused : (x : Account) → Contains accounts x → 1 ≤ x.settled fate.Refused job → Agree accounts report job (Some (Refused x.place))
-    unfolding acked refused
+    unfolding acked refused discarded
     is_refused x there some = record {
       settled = each;
       held = omega (arith, total, one, enough);
@@ -167,23 +184,57 @@ module _ (accounts : List Account) (report : Report) (adds : AddsUp accounts rep
         each : (which : Fate) → count_of job (settled_as which report.settled) ≡ times_settled which (Some (Refused x.place))
         each fate.Acknowledged = omega (arith, total, one, enough)
         each fate.Refused = omega (arith, total, one, enough)
+        each fate.Discarded = omega (arith, total, one, enough)
 
         by : (a : Account) → Contains accounts a → (which : Fate) → a.settled which job ≡ times_settled_by a.place which (Some (Refused x.place))
         by a here fate.Acknowledged = none_acked (omega (arith, total, one, enough)) a here
         by a here fate.Refused = at_one (λ (b : Account). b.settled fate.Refused job) accounts orderly.apart x a there some (omega (arith, total, one, enough, adds.settled fate.Refused job)) here
+        by a here fate.Discarded = none_discarded (omega (arith, total, one, enough)) a here
+
+    is_discarded : (x : Account) → Contains accounts x → 1 ≤ x.settled fate.Discarded job → Agree accounts report job (Some (Discarded x.place))
+    unfolding acked refused discarded
+    is_discarded x there some = record {
+      settled = each;
+      held = omega (arith, total, one, enough);
+      queued = omega (arith, total, one, enough);
+      returned = omega (arith, total, one, enough);
+      out_with = none_out (omega (arith, total, one, enough));
+      settled_by = by;
+    }
+      where
+        enough : 1 ≤ count_of job (settled_as fate.Discarded report.settled)
+        enough = omega (arith, adds.settled fate.Discarded job, some, le_sum (λ (b : Account). b.settled fate.Discarded job) accounts x there)
+
+        each : (which : Fate) → count_of job (settled_as which report.settled) ≡ times_settled which (Some (Discarded x.place))
+        each fate.Acknowledged = omega (arith, total, one, enough)
+        each fate.Refused = omega (arith, total, one, enough)
+        each fate.Discarded = omega (arith, total, one, enough)
+
+        by : (a : Account) → Contains accounts a → (which : Fate) → a.settled which job ≡ times_settled_by a.place which (Some (Discarded x.place))
+        by a here fate.Acknowledged = none_acked (omega (arith, total, one, enough)) a here
+        by a here fate.Refused = none_refused (omega (arith, total, one, enough)) a here
+        by a here fate.Discarded = at_one (λ (b : Account). b.settled fate.Discarded job) accounts orderly.apart x a there some (omega (arith, total, one, enough, adds.settled fate.Discarded job)) here
 
   -- where an accepted job is
   pub somewhere : (spot : Spot) × (times_accepted report.accepted.items job ≡ 1 → Agree accounts report job (Some spot))
-  unfolding acked refused
+  unfolding acked refused discarded
   somewhere = queued_or (ltb 0 (count_of job report.queued.items)) refl
     where
+      discarded_or : count_of job report.queued.items ≤ 0 → count_of job report.returned.items ≤ 0 → count_of job report.held.items ≤ 0 → acked ≤ 0 → refused ≤ 0 → (b : Bool) → ltb 0 discarded ≡ b
+          → (spot : Spot) × (times_accepted report.accepted.items job ≡ 1 → Agree accounts report job (Some spot))
+      discarded_or q r h a f true is =
+          let less = ltb-true 0 discarded is in
+          let x = positive (λ (b : Account). b.settled fate.Discarded job) accounts (omega (arith, less, adds.settled fate.Discarded job)) in
+          (Discarded x.0.place, λ one. is_discarded one x.0 x.1 x.2)
+      discarded_or q r h a f false is = let none = ltb-false 0 discarded is in (Queued, λ one. absurd (omega (arith, total, one, none, q, r, h, a, f)))
+
       refused_or : count_of job report.queued.items ≤ 0 → count_of job report.returned.items ≤ 0 → count_of job report.held.items ≤ 0 → acked ≤ 0 → (b : Bool) → ltb 0 refused ≡ b
           → (spot : Spot) × (times_accepted report.accepted.items job ≡ 1 → Agree accounts report job (Some spot))
       refused_or q r h a true is =
           let less = ltb-true 0 refused is in
           let x = positive (λ (b : Account). b.settled fate.Refused job) accounts (omega (arith, less, adds.settled fate.Refused job)) in
           (Refused x.0.place, λ one. is_refused one x.0 x.1 x.2)
-      refused_or q r h a false is = let none = ltb-false 0 refused is in (Queued, λ one. absurd (omega (arith, total, one, none, q, r, h, a)))
+      refused_or q r h a false is = discarded_or q r h a (ltb-false 0 refused is) (ltb 0 discarded) refl
 
       acked_or : count_of job report.queued.items ≤ 0 → count_of job report.returned.items ≤ 0 → count_of job report.held.items ≤ 0 → (b : Bool) → ltb 0 acked ≡ b
           → (spot : Spot) × (times_accepted report.accepted.items job ≡ 1 → Agree accounts report job (Some spot))

@@ -5,7 +5,7 @@ use Rattle.std.proofs.lemmas.Bool.{cases_lt}
 use Rattle.std.proofs.lemmas.List.Sums.{sum_by-cons}
 use Rattle.dispatch_core.specs.declared.event.Job.{Job}
 use Rattle.dispatch_core.specs.declared.event.Spot.{Spot}
-use Rattle.dispatch_core.specs.declared.event.Spot.TheVariants.{Queued, Held, Acked, Refused, Returned}
+use Rattle.dispatch_core.specs.declared.event.Spot.TheVariants.{Queued, Held, Acked, Refused, Discarded, Returned}
 use Rattle.dispatch_core.specs.GroupState.{GroupState, spot_of, accepted_of, firsts_of}
 use Rattle.dispatch_core.specs.JobRuns.{count_of}
 use Rattle.dispatch_core.specs.Lawful.{RisesByPort, StandsOnce, HasOneFirst, IsLawful}
@@ -26,6 +26,7 @@ queued_if (Some Queued) some = refl
 queued_if (Some (Held place)) some = absurd (omega arith)
 queued_if (Some (Acked place)) some = absurd (omega arith)
 queued_if (Some (Refused place)) some = absurd (omega arith)
+queued_if (Some (Discarded place)) some = absurd (omega arith)
 queued_if (Some Returned) some = absurd (omega arith)
 
 once_at_most : (spot : Option Spot) → times_queued spot ≤ 1
@@ -34,6 +35,7 @@ once_at_most (Some Queued) = omega arith
 once_at_most (Some (Held place)) = omega arith
 once_at_most (Some (Acked place)) = omega arith
 once_at_most (Some (Refused place)) = omega arith
+once_at_most (Some (Discarded place)) = omega arith
 once_at_most (Some Returned) = omega arith
 
 not_queued : (spot : Option Spot) → spot ≢ Some Queued → times_queued spot ≡ 0

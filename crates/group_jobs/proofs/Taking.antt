@@ -4,7 +4,7 @@ use Rattle.std.specs.List.{remove}
 use Rattle.std.proofs.lemmas.List.Elements.{All-cons, All-head, All-tail}
 use Rattle.dispatch_core.specs.declared.event.Job.{Job}
 use Rattle.group_jobs.specs.declared.fate.Fate.{Fate}
-use Rattle.group_jobs.specs.declared.fate.Fate.TheVariants.{Acknowledged, Refused}
+use Rattle.group_jobs.specs.declared.fate.Fate.TheVariants.{Acknowledged, Refused, Discarded}
 use Rattle.group_jobs.specs.declared.ledger.Ledger.{Ledger}
 use Rattle.group_jobs.specs.Settled.{spare_of, least_spare, Settles}
 use Rattle.group_jobs.specs.Dockets.{TakesOff}
@@ -39,5 +39,6 @@ module _ (old : List Job) (job : Job) (new : List Job) (taken : TakesOff old job
 
 -- a run more under one fate takes the room of one run
 pub least_spare-settled : (old new : Ledger) (job : Job) (fate : Fate) → Settles old job fate new → spare_of fate old ≤ spare_of fate new + 1 → least_spare old ≤ least_spare new + 1
-least_spare-settled old new job Acknowledged s room = let same = ap (λ l. l.spare) (s.others Refused (λ e. cc)) in omega arith
-least_spare-settled old new job Refused s room = let same = ap (λ l. l.spare) (s.others Acknowledged (λ e. cc)) in omega arith
+least_spare-settled old new job Acknowledged s room = omega (arith, room, ap (λ l. l.spare) (s.others Refused (λ e. cc)), ap (λ l. l.spare) (s.others Discarded (λ e. cc)))
+least_spare-settled old new job Refused s room = omega (arith, room, ap (λ l. l.spare) (s.others Acknowledged (λ e. cc)), ap (λ l. l.spare) (s.others Discarded (λ e. cc)))
+least_spare-settled old new job Discarded s room = omega (arith, room, ap (λ l. l.spare) (s.others Acknowledged (λ e. cc)), ap (λ l. l.spare) (s.others Refused (λ e. cc)))

@@ -4,7 +4,7 @@ use Rattle.std.specs.Fmt.{decimal}
 use Rattle.mqtt_topic.specs.Names.{Share}
 use Rattle.dispatch_core.specs.declared.event.Job.{Job}
 use Rattle.dispatch_core.specs.JobRuns.{count_of}
-use Rattle.group_jobs.specs.declared.fate.Fate.TheVariants.{Acknowledged, Refused}
+use Rattle.group_jobs.specs.declared.fate.Fate.TheVariants.{Acknowledged, Refused, Discarded}
 use Rattle.group_jobs.specs.declared.report.Report.{Report}
 use Rattle.group_jobs.specs.Settled.{settled_as, times_settled}
 
@@ -26,4 +26,5 @@ unfoldable pub report_line : Share → Report → List ℕ
 report_line share report =
     share.text ++ labelled (codes " accepted ") (sum report.accepted.items) ++ labelled (codes " acknowledged ") (length (settled_as Acknowledged report.settled))
     ++ labelled (codes " refused ") (length (settled_as Refused report.settled)) ++ labelled (codes " held ") (length report.held.items)
-    ++ labelled (codes " queued ") (length report.queued.items) ++ labelled (codes " returned ") (length report.returned.items) ++ 10 ∷ []
+    ++ labelled (codes " queued ") (length report.queued.items) ++ labelled (codes " returned ") (length report.returned.items)
+    ++ labelled (codes " discarded ") (length (settled_as Discarded report.settled)) ++ 10 ∷ []

@@ -5,17 +5,18 @@ use Rattle.dispatch_core.specs.declared.event.Job.{Job}
 use Rattle.dispatch_core.specs.declared.runs.Run.{Run}
 use Rattle.dispatch_core.specs.JobRuns.{JobRuns, jobs_of, count_of}
 use Rattle.group_jobs.specs.declared.fate.Fate.{Fate}
-use Rattle.group_jobs.specs.declared.fate.Fate.TheVariants.{Acknowledged, Refused}
+use Rattle.group_jobs.specs.declared.fate.Fate.TheVariants.{Acknowledged, Refused, Discarded}
 use Rattle.group_jobs.specs.declared.ledger.Ledger.{Ledger}
 
--- every fate that a member can give a job
+-- every fate of a job that was handed out
 abbrev pub fates : List Fate
-fates = Acknowledged ∷ Refused ∷ []
+fates = Acknowledged ∷ Refused ∷ Discarded ∷ []
 
 -- the list of the jobs of this fate, with the room beside it
 abbrev pub list_of : Fate → Ledger → JobRuns
 list_of Acknowledged ledger = ledger.acknowledged
 list_of Refused ledger = ledger.refused
+list_of Discarded ledger = ledger.discarded
 
 abbrev pub runs_of : Fate → Ledger → List Run
 runs_of fate ledger = (list_of fate ledger).runs
@@ -26,7 +27,7 @@ spare_of fate ledger = (list_of fate ledger).spare
 
 -- and for how many more of any one fate
 abbrev pub least_spare : Ledger → ℕ
-least_spare ledger = min (spare_of Acknowledged ledger) (spare_of Refused ledger)
+least_spare ledger = min (min (spare_of Acknowledged ledger) (spare_of Refused ledger)) (spare_of Discarded ledger)
 
 -- the jobs of this fate
 abbrev pub settled_as : Fate → Ledger → List Job

@@ -1,10 +1,13 @@
-//! How a member settles a job.
+//! How a job that a member was handed is settled.
 
-/// What a member says of a job that it was handed. It is for good.
+/// What became of a job that a member was handed. It is for good.
 #[derive(Clone, Copy, Debug, PartialEq, Eq)]
 pub enum Fate {
     /// It was done: a PUBACK with a reason code below 0x80 (section 3.4.2.1).
     Acknowledged,
     /// It was refused: a PUBACK with a reason code of 0x80 or greater. Nobody else is handed it (section 4.8.2).
     Refused,
+    /// It was not sent: it was too late or too long for the member's client. Nobody else is handed it (sections 3.3.2.3.3 and
+    /// 3.1.2.11.4).
+    Discarded,
 }

@@ -1,6 +1,5 @@
 //! Settled jobs, by fate.
-ghost use Rattle.std.specs.Prelude.{◌≡◌, ◌≤◌, ◌<◌, ◌+◌, ◌++◌, length, min, IfOk, OnOk, OnErr};
-ghost use Rattle.group_jobs.specs.declared.fate.Fate.TheVariants as fates;
+ghost use Rattle.std.specs.Prelude.{◌≡◌, ◌≤◌, ◌<◌, ◌+◌, ◌++◌, length, min, sum_by, IfOk, OnOk, OnErr};
 ghost use Rattle.std.specs.List.Sorted.{IsPermutation};
 
 use crate::error::JobError;
@@ -16,11 +15,13 @@ pub struct Ledger {
     pub acknowledged: Runs,
     /// The jobs that were refused.
     pub refused: Runs,
+    /// The jobs that were discarded.
+    pub discarded: Runs,
 }
 
 impl Ledger {
     ghost use Rattle.group_jobs.specs.declared.fate.Fate.{Fate as fate_type};
-    ghost use Rattle.group_jobs.specs.Settled.{list_of, runs_of, spare_of, least_spare, settled_as, KeepsSettled, IsUnsettled, Settles};
+    ghost use Rattle.group_jobs.specs.Settled.{fates, list_of, runs_of, spare_of, least_spare, settled_as, KeepsSettled, IsUnsettled, Settles};
 
     /// Nothing settled, and no room.
     pub fn new(alloc: Global) -> Ledger
@@ -29,6 +30,7 @@ impl Ledger {
         Ledger {
             acknowledged: Runs::new(alloc),
             refused: Runs::new(alloc),
+            discarded: Runs::new(alloc),
         }
     }
 
@@ -39,6 +41,7 @@ impl Ledger {
         match fate {
             Fate::Acknowledged => &self.acknowledged,
             Fate::Refused => &self.refused,
+            Fate::Discarded => &self.discarded,
         }
     }
 
@@ -55,6 +58,7 @@ impl Ledger {
     {
         self.acknowledged.reserve(count)?;
         self.refused.reserve(count)?;
+        self.discarded.reserve(count)?;
         Ok(())
     }
 
@@ -70,8 +74,10 @@ impl Ledger {
     {
         let acknowledged = other.acknowledged.run_count();
         let refused = other.refused.run_count();
+        let discarded = other.discarded.run_count();
         self.acknowledged.reserve(acknowledged)?;
         self.refused.reserve(refused)?;
+        self.discarded.reserve(discarded)?;
         Ok(())
     }
 
@@ -87,7 +93,9 @@ impl Ledger {
     {
         let acknowledged = other.acknowledged.run_count();
         let refused = other.refused.run_count();
-        let Some(room) = self.spare().checked_add(acknowledged.max(refused)) else {
+        let discarded = other.discarded.run_count();
+        let most = acknowledged.max(refused).max(discarded);
+        let Some(room) = self.spare().checked_add(most) else {
             return Err(JobError::Memory);
         };
         self.reserve(room)?;
@@ -99,23 +107,30 @@ impl Ledger {
         ensures value { result ≡ least_spare self.now }
         ensures each { (fate : fate_type) → result ≤ spare_of fate self.now }
     {
-        self.acknowledged.spare().min(self.refused.spare())
+        self.acknowledged
+            .spare()
+            .min(self.refused.spare())
+            .min(self.discarded.spare())
     }
 
     /// How many jobs there are, of whatever fate, or 2^128 - 1 where there are more.
     pub fn len(&self) -> u128
-        ensures { result ≡ min (length (settled_as fates.Acknowledged self.now) + length (settled_as fates.Refused self.now)) u128.MAX }
+        ensures { result ≡ min (sum_by (λ fate. length (settled_as fate self.now)) fates) u128.MAX }
     {
-        self.acknowledged.len().saturating_add(self.refused.len())
+        self.acknowledged
+            .len()
+            .saturating_add(self.refused.len())
+            .saturating_add(self.discarded.len())
     }
 
     /// How many runs the jobs are in, of whatever fate, or 2^64 - 1 where they are in more. It looks at none of them.
     pub fn run_count(&self) -> usize
-        ensures { result ≡ min (length (runs_of fates.Acknowledged self.now) + length (runs_of fates.Refused self.now)) usize.MAX }
+        ensures { result ≡ min (sum_by (λ fate. length (runs_of fate self.now)) fates) usize.MAX }
     {
         self.acknowledged
             .run_count()
             .saturating_add(self.refused.run_count())
+            .saturating_add(self.discarded.run_count())
     }
 
     /// Puts a job to those of this fate. There is room for a run, and the number is below 2^64 - 1.
@@ -128,6 +143,7 @@ impl Ledger {
         match fate {
             Fate::Acknowledged => self.acknowledged.add(job),
             Fate::Refused => self.refused.add(job),
+            Fate::Discarded => self.discarded.add(job),
         }
     }
 
@@ -140,8 +156,10 @@ impl Ledger {
         let Ledger {
             acknowledged,
             refused,
+            discarded,
         } = other;
         self.acknowledged.merge(acknowledged);
         self.refused.merge(refused);
+        self.discarded.merge(discarded);
     }
 }

@@ -12,7 +12,7 @@ use std::alloc::{AllocError, Global};
 pub struct Report {
     /// For each port, how many messages it accepted.
     pub accepted: Vec<u64>,
-    /// Those that were acknowledged, and those that were refused.
+    /// Those that were acknowledged, those that were refused, and those that were discarded.
     pub settled: Ledger,
     /// Those that were handed out and neither settled nor given back.
     pub held: Vec<Job>,
@@ -55,6 +55,12 @@ impl Report {
             &mut line,
             " returned ",
             self.returned.as_slice().len() as u128,
+        )?;
+        push_count(
+            alloc,
+            &mut line,
+            " discarded ",
+            self.settled.discarded.len(),
         )?;
         line.push(b'\n')?;
         Ok(line)

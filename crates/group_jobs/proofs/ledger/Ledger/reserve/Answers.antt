@@ -1,6 +1,6 @@
 -- Where memory was refused, one of the lists had no such room.
 use Rattle.std.proofs.Common.{arith}
-use Rattle.group_jobs.specs.declared.fate.Fate.TheVariants.{Acknowledged, Refused}
+use Rattle.group_jobs.specs.declared.fate.Fate.TheVariants.{Acknowledged, Refused, Discarded}
 use Rattle.group_jobs.proofs.ledger.Ledger.reserve.Goals as goal
 
 pub returns-in_err-reserve-clause-full : goal.returns-in_err-reserve-clause-full
@@ -8,3 +8,6 @@ returns-in_err-reserve-clause-full c = λ room. absurd (omega (arith, room Ackno
 
 pub returns-in_err-reserve-2-clause-full : goal.returns-in_err-reserve-2-clause-full
 returns-in_err-reserve-2-clause-full c = λ room. absurd (omega (arith, room Refused, c.in_err-reserve-2.ensures.full))
+
+pub returns-in_err-reserve-3-clause-full : goal.returns-in_err-reserve-3-clause-full
+returns-in_err-reserve-3-clause-full c = λ room. absurd (omega (arith, room Discarded, c.in_err-reserve-3.ensures.full))
