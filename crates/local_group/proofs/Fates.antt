@@ -1,14 +1,16 @@
 -- A report names each accepted job once.
 use Rattle.std.proofs.Common.{◌≡◌, ℕ, ◌+◌, ◌<◌, ◌≤◌, Bool, cond, List, length, get_or, Option, Some, None, IsSome, refl, sym, ap, ◌∙◌, ⊎_elim, arith, lt-ltb, le-ltb}
+use Rattle.std.specs.Prelude.{sum_by}
 use Rattle.std.proofs.Math.ListN.{get_or-eq_default}
 use Rattle.std.proofs.lemmas.Bool.{cases_lt, false≢true}
 use Rattle.dispatch_core.specs.declared.event.Job.{Job}
 use Rattle.dispatch_core.specs.declared.event.Spot.{Spot}
-use Rattle.dispatch_core.specs.declared.event.Spot.TheVariants.{Queued, Held, Acked, Refused, Returned}
+use Rattle.dispatch_core.specs.declared.event.Spot.TheVariants.{Queued, Held, Acked, Refused, Discarded, Returned}
 use Rattle.dispatch_core.specs.GroupState.{spot_of, accepted_of}
 use Rattle.dispatch_core.specs.Lawful.{IsLawful}
 use Rattle.group_jobs.specs.declared.fate.Fate.TheVariants as fate
 use Rattle.group_jobs.specs.declared.report.Report.{Report}
+use Rattle.group_jobs.specs.Settled.{fates}
 use Rattle.group_jobs.specs.Reports.{fates_of, times_accepted}
 use Rattle.local_group.specs.Groups.{Group}
 use Rattle.group_jobs.specs.Spots.{times_queued, times_out, times_returned, times_settled}
@@ -16,7 +18,7 @@ use Rattle.local_group.specs.Reporting.{Reports}
 
 -- how often a job at this spot stands in all lists together
 abbrev all_times : Option Spot → ℕ
-all_times spot = times_settled fate.Acknowledged spot + times_settled fate.Refused spot + times_out spot + times_queued spot + times_returned spot
+all_times spot = sum_by (λ which. times_settled which spot) fates + times_out spot + times_queued spot + times_returned spot
 
 once : (spot : Option Spot) → IsSome spot → all_times spot ≡ 1
 once None some = absurd (false≢true some)
@@ -24,6 +26,7 @@ once (Some Queued) some = refl
 once (Some (Held place)) some = refl
 once (Some (Acked place)) some = refl
 once (Some (Refused place)) some = refl
+once (Some (Discarded place)) some = refl
 once (Some Returned) some = refl
 
 never : (spot : Option Spot) → (IsSome spot → ⊥) → all_times spot ≡ 0
@@ -49,6 +52,7 @@ one_fate group report lawful reports job =
       arith,
       reports.settled fate.Acknowledged job,
       reports.settled fate.Refused job,
+      reports.settled fate.Discarded job,
       reports.held job,
       reports.queued job,
       reports.returned job,

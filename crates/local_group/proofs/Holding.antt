@@ -2,7 +2,7 @@
 use Rattle.std.proofs.Common.{◌≡◌, ◌≢◌, ℕ, Some, sym, ap, ◌∙◌, subst}
 use Rattle.dispatch_core.specs.declared.event.Job.{Job}
 use Rattle.dispatch_core.specs.declared.event.Event.{Event}
-use Rattle.dispatch_core.specs.declared.event.Event.TheVariants.{Accept, First, Ack, Refuse, Back, Again, Close}
+use Rattle.dispatch_core.specs.declared.event.Event.TheVariants.{Accept, First, Ack, Refuse, Discard, Back, Again, Close}
 use Rattle.dispatch_core.specs.declared.event.Spot.{Spot}
 use Rattle.dispatch_core.specs.declared.event.Spot.TheVariants.{Held}
 use Rattle.dispatch_core.specs.GroupState.{GroupState, spot_of}
@@ -26,6 +26,7 @@ spot_stays old new (Accept port) job step differs = elsewhere old new _ _ job st
 spot_stays old new (First place other) job step differs = elsewhere old new _ _ job step.made.0 differs
 spot_stays old new (Ack place other) job step differs = elsewhere old new _ _ job step.made.0 differs
 spot_stays old new (Refuse place other) job step differs = elsewhere old new _ _ job step.made.0 differs
+spot_stays old new (Discard place other) job step differs = elsewhere old new _ _ job step.made.0 differs
 spot_stays old new (Back place other) job step differs = elsewhere old new _ _ job step.made.0 differs
 spot_stays old new (Again place other) job step differs = elsewhere old new _ _ job step.made.0 differs
 spot_stays old new Close job step differs = step.made.0 job

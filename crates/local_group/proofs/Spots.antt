@@ -2,7 +2,7 @@
 use Rattle.std.proofs.Common.{◌≡◌, ◌≢◌, ℕ, ◌+◌, ◌-◌, ◌≤◌, List, [], ◌∷◌, length, Option, Some, None, refl, sym, ap, ◌∙◌, ⊎_elim, arith}
 use Rattle.dispatch_core.specs.declared.event.Job.{Job}
 use Rattle.dispatch_core.specs.declared.event.Spot.{Spot}
-use Rattle.dispatch_core.specs.declared.event.Spot.TheVariants.{Queued, Held, Acked, Refused, Returned}
+use Rattle.dispatch_core.specs.declared.event.Spot.TheVariants.{Queued, Held, Acked, Refused, Discarded, Returned}
 use Rattle.dispatch_core.specs.GroupState.{GroupState, spot_of}
 use Rattle.dispatch_core.specs.Step.{Moves}
 use Rattle.dispatch_core.specs.JobRuns.{count_of}
@@ -82,6 +82,7 @@ queued_if (Some Queued) some = refl
 queued_if (Some (Held place)) some = absurd (omega arith)
 queued_if (Some (Acked place)) some = absurd (omega arith)
 queued_if (Some (Refused place)) some = absurd (omega arith)
+queued_if (Some (Discarded place)) some = absurd (omega arith)
 queued_if (Some Returned) some = absurd (omega arith)
 
 pub returned_if : (spot : Option Spot) → 1 ≤ times_returned spot → spot ≡ Some Returned
@@ -90,4 +91,5 @@ returned_if (Some Queued) some = absurd (omega arith)
 returned_if (Some (Held place)) some = absurd (omega arith)
 returned_if (Some (Acked place)) some = absurd (omega arith)
 returned_if (Some (Refused place)) some = absurd (omega arith)
+returned_if (Some (Discarded place)) some = absurd (omega arith)
 returned_if (Some Returned) some = refl

@@ -4,9 +4,9 @@ use Rattle.std.proofs.lemmas.List.{map-append}
 use Rattle.std.proofs.lemmas.List.Quantifiers.{all_pairs_push}
 use Rattle.dispatch_core.specs.declared.event.Job.{Job}
 use Rattle.dispatch_core.specs.declared.event.Event.{Event}
-use Rattle.dispatch_core.specs.declared.event.Event.TheVariants.{Accept, First, Ack, Refuse, Back, Again, Close}
+use Rattle.dispatch_core.specs.declared.event.Event.TheVariants.{Accept, First, Ack, Refuse, Discard, Back, Again, Close}
 use Rattle.dispatch_core.specs.declared.event.Spot.{Spot}
-use Rattle.dispatch_core.specs.declared.event.Spot.TheVariants.{Queued, Held, Acked, Refused, Returned}
+use Rattle.dispatch_core.specs.declared.event.Spot.TheVariants.{Queued, Held, Acked, Refused, Discarded, Returned}
 use Rattle.dispatch_core.specs.GroupState.{GroupState, spot_of, accepted_of}
 use Rattle.dispatch_core.specs.Step.{Step, Moves, HasOlderQueued, MayHappen, next_job}
 use Rattle.dispatch_core.specs.History.{IsRun}
@@ -232,6 +232,7 @@ pub may_fate : (fate : Fate) (state : GroupState) (place : ℕ) (job : Job) → 
     → MayHappen state (event_of fate place job)
 may_fate fate.Acknowledged state place job ranged held = record { in_range = (ranged.places job place held, ranged.ports job (ap is_some held)); not_closed = λ needs. absurd needs; ready = held }
 may_fate fate.Refused state place job ranged held = record { in_range = (ranged.places job place held, ranged.ports job (ap is_some held)); not_closed = λ needs. absurd needs; ready = held }
+may_fate fate.Discarded state place job ranged held = record { in_range = (ranged.places job place held, ranged.ports job (ap is_some held)); not_closed = λ needs. absurd needs; ready = held }
 
 -- by whatever fate
 pub kept_fate : (fate : Fate) (old new : GroupState) (events : List Event) (queue returned : List Waiting) (out place : ℕ) (job : Job)
@@ -249,6 +250,13 @@ kept_fate fate.Refused old new events queue returned out place job kept step =
     let held : spot_of old job ≡ Some (Held place) = step.may.ready in (
       kept_settled old new events (Refuse place job) queue returned out place job (Refused place) held moves refl refl refl kept step,
       one_out old new job (Refused place) moves out kept.outs (ap times_out held),
+      left_same old new step.made.2,
+    )
+kept_fate fate.Discarded old new events queue returned out place job kept step =
+    let moves = step.made.0 in
+    let held : spot_of old job ≡ Some (Held place) = step.may.ready in (
+      kept_settled old new events (Discard place job) queue returned out place job (Discarded place) held moves refl refl refl kept step,
+      one_out old new job (Discarded place) moves out kept.outs (ap times_out held),
       left_same old new step.made.2,
     )
 

@@ -2,7 +2,7 @@
 use Rattle.std.specs.Prelude.{◌≡◌, ◌≢◌, ℕ, ◌<◌, ◌≤◌, true, false, List, [], ◌∷◌, ◌++◌, length, Option, Some, None}
 use Rattle.dispatch_core.specs.declared.event.Job.{Job}
 use Rattle.dispatch_core.specs.declared.event.Event.{Event}
-use Rattle.dispatch_core.specs.declared.event.Event.TheVariants.{Accept, First, Ack, Refuse, Back, Again, Close}
+use Rattle.dispatch_core.specs.declared.event.Event.TheVariants.{Accept, First, Ack, Refuse, Discard, Back, Again, Close}
 use Rattle.dispatch_core.specs.declared.event.Spot.TheVariants.{Held}
 use Rattle.dispatch_core.specs.GroupState.{GroupState, IsEmpty, spot_of, accepted_of}
 use Rattle.dispatch_core.specs.Step.{Step, next_job}
@@ -102,6 +102,7 @@ MayNotTake group list taking.Memory = (group.state.closed ≡ false) × (list �
 abbrev pub event_of : Fate → ℕ → Job → Event
 event_of fate.Acknowledged place job = Ack place job
 event_of fate.Refused place job = Refuse place job
+event_of fate.Discarded place job = Discard place job
 
 -- a message is settled by the place that holds it, as its PUBACK says (4.8.2)
 pub record Settles (old : Group) (envelope : Envelope) (fate : Fate) (new : Group) : Type 0 where

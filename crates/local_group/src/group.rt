@@ -283,5 +283,6 @@ fn event_of(fate: Fate, member: u8, job: Job) -> Event
     match fate {
         Fate::Acknowledged => Event::Ack { member, job },
         Fate::Refused => Event::Refuse { member, job },
+        Fate::Discarded => Event::Discard { member, job },
     }
 }

@@ -80,6 +80,7 @@ fn tally_job(spot: Option<Spot>, job: Job, tally: &mut Tally) -> Result<(), JobE
         Some(Spot::Held(_)) => tally.held.push(job)?,
         Some(Spot::Acked(_)) => settle(&mut tally.settled, job, Fate::Acknowledged)?,
         Some(Spot::Refused(_)) => settle(&mut tally.settled, job, Fate::Refused)?,
+        Some(Spot::Discarded(_)) => settle(&mut tally.settled, job, Fate::Discarded)?,
         None | Some(Spot::Queued | Spot::Returned) => (),
     }
     Ok(())

@@ -9,7 +9,7 @@ use Rattle.crossbeam_queue.proofs.Lists.{at_set, at_snoc}
 use Rattle.dispatch_core.specs.declared.event.Job.{Job}
 use Rattle.dispatch_core.specs.JobRuns.{jobs_of, count_of}
 use Rattle.group_jobs.specs.declared.fate.Fate.{Fate}
-use Rattle.group_jobs.specs.declared.fate.Fate.TheVariants.{Acknowledged, Refused}
+use Rattle.group_jobs.specs.declared.fate.Fate.TheVariants.{Acknowledged, Refused, Discarded}
 use Rattle.group_jobs.specs.declared.ledger.Ledger.{Ledger}
 use Rattle.group_jobs.specs.Settled.{settled_as, IsUnsettled}
 use Rattle.shared_ledger.specs.declared.share.Share.{Share}
@@ -88,6 +88,7 @@ puts_first n pass v x is none =
     same : (fate : Fate) (job : Job) → times_in (x ∷ []) fate job ≡ times_in (no_jobs ∷ []) fate job
     same Acknowledged job = omega (arith, ap (λ runs. count_of job (jobs_of runs)) (none Acknowledged))
     same Refused job = omega (arith, ap (λ runs. count_of job (jobs_of runs)) (none Refused))
+    same Discarded job = omega (arith, ap (λ runs. count_of job (jobs_of runs)) (none Discarded))
 
 pub gives_more : (n pass : ℕ) (v : Share) (x more : Ledger) → 1 ≤ v.parts → length v.hand ≡ 1
     → ((fate : Fate) (job : Job) → times_in (x ∷ []) fate job ≡ times_in v.hand fate job + times_in (more ∷ []) fate job) → Pushes Gives n pass v x (GivesMore v x)
@@ -122,6 +123,7 @@ starts = record { parts = refl; one = refl; idle = idle; counts = counts }
     counts : (fate : Fate) (job : Job) → times_in [] fate job + sum_by (in_hand fate job) (share 64 (no_jobs ∷ []) [] ∷ []) ≡ sum_by (in_gave fate job) (share 64 (no_jobs ∷ []) [] ∷ [])
     counts Acknowledged job = refl
     counts Refused job = refl
+    counts Discarded job = refl
 
 cuts : (pass : ℕ) (v w : Share) (parts : ℕ) → w.parts + parts ≡ v.parts → w.hand ≡ v.hand → w.gave ≡ v.gave → (w.parts ≡ 0 → w.gave ≡ []) → Forks Gives pass v w (share parts [] [])
 cuts pass v w parts sum hand gave own items views h at =

@@ -5,9 +5,8 @@ use lib.ListN.{get_elem?}
 use Rattle.dispatch_core.specs.declared.event.Job.{Job}
 use Rattle.dispatch_core.specs.JobRuns.{JobRuns, count_of}
 use Rattle.group_jobs.specs.declared.fate.Fate.{Fate}
-use Rattle.group_jobs.specs.declared.fate.Fate.TheVariants.{Acknowledged, Refused}
 use Rattle.group_jobs.specs.declared.ledger.Ledger.{Ledger}
-use Rattle.group_jobs.specs.Settled.{settled_as}
+use Rattle.group_jobs.specs.Settled.{fates, settled_as}
 use Rattle.shared_ledger.specs.declared.share.Share.{Share}
 
 abbrev pub share : ℕ → List Ledger → List Ledger → Share
@@ -18,7 +17,7 @@ abbrev pub no_runs : JobRuns
 no_runs = record { runs = []; spare = 0 }
 
 abbrev pub no_jobs : Ledger
-no_jobs = record { acknowledged = no_runs; refused = no_runs }
+no_jobs = record { acknowledged = no_runs; refused = no_runs; discarded = no_runs }
 
 -- how often a job was settled by a fate, in these ledgers together
 abbrev pub times_in : List Ledger → Fate → Job → ℕ
@@ -26,7 +25,7 @@ times_in ledgers fate job = sum_by (λ ledger. count_of job (settled_as fate led
 
 -- how many jobs a ledger has, of whatever fate
 abbrev pub jobs_in : Ledger → ℕ
-jobs_in ledger = length (settled_as Acknowledged ledger) + length (settled_as Refused ledger)
+jobs_in ledger = sum_by (λ fate. length (settled_as fate ledger)) fates
 
 -- the parts of two, and what both have in hands and gave
 abbrev pub joined : Share → Share → Share
