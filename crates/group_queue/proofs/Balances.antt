@@ -8,7 +8,7 @@ use Rattle.std.specs.Prelude.{◌==◌, ◌&&◌, cond}
 use Rattle.dispatch_core.specs.declared.event.Job.{Job}
 use Rattle.dispatch_core.specs.JobRuns.{jobs_of, count_of}
 use Rattle.group_jobs.specs.declared.fate.Fate.{Fate}
-use Rattle.group_jobs.specs.declared.fate.Fate.TheVariants.{Acknowledged, Refused}
+use Rattle.group_jobs.specs.declared.fate.Fate.TheVariants.{Acknowledged, Refused, Discarded}
 use Rattle.group_jobs.specs.declared.ledger.Ledger.{Ledger}
 use Rattle.group_jobs.specs.Settled.{KeepsSettled, Settles, times_settled}
 use Rattle.group_jobs.specs.Dockets.{TakesOff}
@@ -41,7 +41,8 @@ pub times-kept : (job : Job) (old new : Ledger) → KeepsSettled old new → tim
 times-kept job old new kept =
     let a = ap (λ runs. count_of job (jobs_of runs)) (kept Acknowledged) in
     let r = ap (λ runs. count_of job (jobs_of runs)) (kept Refused) in
-    omega (arith, a, r)
+    let d = ap (λ runs. count_of job (jobs_of runs)) (kept Discarded) in
+    omega (arith, a, r, d)
 
 count-permuted : (job one : Job) (xs ys : List Job) → IsPermutation (one ∷ xs) ys → count_of job ys ≡ count_of job (one ∷ []) + count_of job xs
 unfolding worth
@@ -51,8 +52,15 @@ pub times-settled : (job : Job) (old : Ledger) (one : Job) (fate : Fate) (new : 
 times-settled job old one Acknowledged new s =
     let a = count-permuted job one _ _ s.there in
     let r = ap (λ list. count_of job (jobs_of list.runs)) (s.others Refused (λ e. cc)) in
-    omega (arith, a, r)
+    let d = ap (λ list. count_of job (jobs_of list.runs)) (s.others Discarded (λ e. cc)) in
+    omega (arith, a, r, d)
 times-settled job old one Refused new s =
-    let r = count-permuted job one _ _ s.there in
     let a = ap (λ list. count_of job (jobs_of list.runs)) (s.others Acknowledged (λ e. cc)) in
-    omega (arith, a, r)
+    let r = count-permuted job one _ _ s.there in
+    let d = ap (λ list. count_of job (jobs_of list.runs)) (s.others Discarded (λ e. cc)) in
+    omega (arith, a, r, d)
+times-settled job old one Discarded new s =
+    let a = ap (λ list. count_of job (jobs_of list.runs)) (s.others Acknowledged (λ e. cc)) in
+    let r = ap (λ list. count_of job (jobs_of list.runs)) (s.others Refused (λ e. cc)) in
+    let d = count-permuted job one _ _ s.there in
+    omega (arith, a, r, d)

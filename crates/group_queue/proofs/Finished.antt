@@ -7,7 +7,7 @@ use Rattle.crossbeam_queue.specs.Passes.{view}
 use Rattle.dispatch_core.specs.declared.event.Job.{Job}
 use Rattle.dispatch_core.specs.JobRuns.{count_of}
 use Rattle.group_jobs.specs.declared.fate.Fate.{Fate}
-use Rattle.group_jobs.specs.declared.fate.Fate.TheVariants.{Acknowledged, Refused}
+use Rattle.group_jobs.specs.declared.fate.Fate.TheVariants.{Acknowledged, Refused, Discarded}
 use Rattle.group_jobs.specs.declared.ledger.Ledger.{Ledger}
 use Rattle.group_jobs.specs.declared.report.Report.{Report}
 use Rattle.group_jobs.specs.Settled.{settled_as, runs_of, least_spare, spare_of}
@@ -91,20 +91,19 @@ module _ (group : GroupId) (ports : List PortState) (places : List PlaceState) (
 
   pub room_settled : ((fate : Fate) → sum_by (λ (p : PlaceState). length (runs_of fate p.docket.settled)) places ≤ least_spare ledger) → (fate : Fate)
       → sum_by (λ (d : Kept). length (runs_of fate d.settled)) dockets ≤ spare_of fate ledger
-  room_settled enough Acknowledged = omega (
+  room_settled enough fate = omega (
     arith,
-    enough Acknowledged,
-    ap (sum_by (λ (d : Kept). length (runs_of Acknowledged d.settled))) j.kept,
-    sum_by-map (λ (d : Kept). length (runs_of Acknowledged d.settled)) (λ (p : PlaceState). p.docket) j.order,
-    summed (λ (p : PlaceState). length (runs_of Acknowledged p.docket.settled)),
+    enough fate,
+    ap (sum_by (λ (d : Kept). length (runs_of fate d.settled))) j.kept,
+    sum_by-map (λ (d : Kept). length (runs_of fate d.settled)) (λ (p : PlaceState). p.docket) j.order,
+    summed (λ (p : PlaceState). length (runs_of fate p.docket.settled)),
+    least fate,
   )
-  room_settled enough Refused = omega (
-    arith,
-    enough Refused,
-    ap (sum_by (λ (d : Kept). length (runs_of Refused d.settled))) j.kept,
-    sum_by-map (λ (d : Kept). length (runs_of Refused d.settled)) (λ (p : PlaceState). p.docket) j.order,
-    summed (λ (p : PlaceState). length (runs_of Refused p.docket.settled)),
-  )
+    where
+      least : (which : Fate) → least_spare ledger ≤ spare_of which ledger
+      least Acknowledged = omega arith
+      least Refused = omega arith
+      least Discarded = omega arith
 
   settled_in : (fate : Fate) (job : Job) → sum_by (λ (d : Kept). count_of job (settled_as fate d.settled)) dockets ≡ sum_by (λ (p : PlaceState). count_of job (settled_as fate p.docket.settled)) j.order
   settled_in fate job =

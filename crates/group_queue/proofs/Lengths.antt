@@ -7,10 +7,10 @@ use Rattle.std.proofs.lemmas.List.Sums.{sum_by-cons}
 use Rattle.dispatch_core.specs.declared.event.Job.{Job}
 use Rattle.dispatch_core.specs.JobRuns.{count_of}
 use Rattle.dispatch_core.proofs.JobLists.{count_of-append, count_of-cons, count_of_contained}
-use Rattle.group_jobs.specs.declared.fate.Fate.TheVariants.{Acknowledged, Refused}
+use Rattle.group_jobs.specs.declared.fate.Fate.TheVariants.{Acknowledged, Refused, Discarded}
 use Rattle.group_jobs.specs.declared.fate.Fate.{Fate}
 use Rattle.group_jobs.specs.declared.ledger.Ledger.{Ledger}
-use Rattle.group_jobs.specs.Settled.{settled_as}
+use Rattle.group_jobs.specs.Settled.{fates, settled_as}
 use Rattle.shared_ledger.specs.Giving.{times_in, jobs_in as jobs_given}
 use Rattle.group_queue.specs.Places.{PlaceState, IsBalanced, jobs_in}
 use Rattle.group_queue.specs.Known.{ended}
@@ -76,7 +76,7 @@ count_listed fate job (l ∷ ls) =
 
 -- how many jobs a place gave to the group's ledger
 pub gathered : PlaceState → ℕ
-gathered place = length (listed Acknowledged place.giver.gave) + length (listed Refused place.giver.gave)
+gathered place = sum_by (λ fate. length (listed fate place.giver.gave)) fates
 
 -- all jobs of a fate that these places gave
 abbrev pub all_listed : Fate → List PlaceState → List Job
@@ -93,13 +93,14 @@ count_all_listed fate job (p ∷ places) = omega (
   sum_by-cons (λ (q : PlaceState). times_in q.giver.gave fate job) p places,
 )
 
-length_all_listed : (places : List PlaceState) → length (all_listed Acknowledged places) + length (all_listed Refused places) ≡ sum_by gathered places
+length_all_listed : (places : List PlaceState) → sum_by (λ fate. length (all_listed fate places)) fates ≡ sum_by gathered places
 unfolding gathered
 length_all_listed [] = refl
 length_all_listed (p ∷ places) = omega (
   arith,
   length-append (listed Acknowledged p.giver.gave) (all_listed Acknowledged places),
   length-append (listed Refused p.giver.gave) (all_listed Refused places),
+  length-append (listed Discarded p.giver.gave) (all_listed Discarded places),
   length_all_listed places,
   sum_by-cons gathered p places,
 )
@@ -109,7 +110,7 @@ pub as_many : (ledger : Ledger) (places : List PlaceState) → ((fate : Fate) (j
     → jobs_given ledger ≡ sum_by gathered places
 as_many ledger places same =
     let each = λ (fate : Fate). same_lengths (settled_as fate ledger) (all_listed fate places) (λ job. same fate job ∙ sym (count_all_listed fate job places)) in
-    omega (arith, each Acknowledged, each Refused, length_all_listed places)
+    omega (arith, each Acknowledged, each Refused, each Discarded, length_all_listed places)
 
 -- as many hand-outs as ends
 pub balanced_length : (place : PlaceState) → IsBalanced place → length place.firsts + length place.agains ≡ ended place + gathered place + length place.given + length place.docket.out
@@ -117,34 +118,41 @@ unfolding gathered
 balanced_length place balanced =
     let done = settled_as Acknowledged place.docket.settled in
     let no = settled_as Refused place.docket.settled in
+    let off = settled_as Discarded place.docket.settled in
     let before = listed Acknowledged place.giver.gave in
     let before_no = listed Refused place.giver.gave in
+    let before_off = listed Discarded place.giver.gave in
     let out = place.docket.out in
     let firsts = jobs_in place.firsts in
     let agains = jobs_in place.agains in
     let given = jobs_in place.given in
     let last = given ++ out in
-    let same = same_lengths (firsts ++ agains) (done ++ (no ++ (before ++ (before_no ++ last))))
+    let same = same_lengths (firsts ++ agains) (done ++ (no ++ (off ++ (before ++ (before_no ++ (before_off ++ last))))))
     (λ job. omega (
       arith,
       balanced job,
       count_listed Acknowledged job place.giver.gave,
       count_listed Refused job place.giver.gave,
+      count_listed Discarded job place.giver.gave,
       count_of-append job firsts agains,
-      count_of-append job done (no ++ (before ++ (before_no ++ last))),
-      count_of-append job no (before ++ (before_no ++ last)),
-      count_of-append job before (before_no ++ last),
-      count_of-append job before_no last,
+      count_of-append job done (no ++ (off ++ (before ++ (before_no ++ (before_off ++ last))))),
+      count_of-append job no (off ++ (before ++ (before_no ++ (before_off ++ last)))),
+      count_of-append job off (before ++ (before_no ++ (before_off ++ last))),
+      count_of-append job before (before_no ++ (before_off ++ last)),
+      count_of-append job before_no (before_off ++ last),
+      count_of-append job before_off last,
       count_of-append job given out,
     )) in
     omega (
       arith,
       same,
       length-append firsts agains,
-      length-append done (no ++ (before ++ (before_no ++ last))),
-      length-append no (before ++ (before_no ++ last)),
-      length-append before (before_no ++ last),
-      length-append before_no last,
+      length-append done (no ++ (off ++ (before ++ (before_no ++ (before_off ++ last))))),
+      length-append no (off ++ (before ++ (before_no ++ (before_off ++ last)))),
+      length-append off (before ++ (before_no ++ (before_off ++ last))),
+      length-append before (before_no ++ (before_off ++ last)),
+      length-append before_no (before_off ++ last),
+      length-append before_off last,
       length-append given out,
       length_jobs place.firsts,
       length_jobs place.agains,

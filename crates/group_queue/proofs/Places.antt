@@ -10,7 +10,7 @@ use Rattle.crossbeam_queue.specs.Passes.{Pass, view}
 use Rattle.dispatch_core.specs.declared.event.Job.{Job}
 use Rattle.dispatch_core.specs.JobRuns.{jobs_of, count_of}
 use Rattle.group_jobs.specs.declared.fate.Fate.{Fate}
-use Rattle.group_jobs.specs.declared.fate.Fate.TheVariants.{Acknowledged, Refused}
+use Rattle.group_jobs.specs.declared.fate.Fate.TheVariants.{Acknowledged, Refused, Discarded}
 use Rattle.std.proofs.lemmas.List.Sums.{sum_by-append}
 use Rattle.group_jobs.specs.declared.ledger.Ledger.{Ledger}
 use Rattle.group_jobs.specs.Settled.{settled_as, IsUnsettled, KeepsSettled, Settles}
@@ -158,8 +158,9 @@ gathers_hands number old new t giver after h g = record {
       let o = ap (count_of job) g.out in
       let a = ap (λ runs. count_of job (jobs_of runs)) (g.settled Acknowledged) in
       let r = ap (λ runs. count_of job (jobs_of runs)) (g.settled Refused) in
+      let d = ap (λ runs. count_of job (jobs_of runs)) (g.settled Discarded) in
       let more = λ (fate : Fate). ap (λ (s : GiverState). times_in s.gave fate job) g.is ∙ sum_by-append (λ (l : Ledger). count_of job (settled_as fate l)) giver.gave (g.given ∷ []) in
-      omega (arith, was, o, a, r, more Acknowledged, more Refused, g.counts Acknowledged job, g.counts Refused job));
+      omega (arith, was, o, a, r, d, more Acknowledged, more Refused, more Discarded, g.counts Acknowledged job, g.counts Refused job, g.counts Discarded job));
   small = subst (All IsSmall) (sym g.out) h.small;
 }
 
@@ -217,8 +218,9 @@ new_hands number docket t giver few none main returns bare out unsettled = recor
       let o = ap (count_of job) out in
       let a = ap (λ runs. count_of job (jobs_of runs)) (unsettled Acknowledged) in
       let r = ap (λ runs. count_of job (jobs_of runs)) (unsettled Refused) in
+      let d = ap (λ runs. count_of job (jobs_of runs)) (unsettled Discarded) in
       let n = λ (fate : Fate). ap (λ l. times_in l fate job) none in
-      omega (arith, firsts, agains, given, o, a, r, n Acknowledged, n Refused));
+      omega (arith, firsts, agains, given, o, a, r, d, n Acknowledged, n Refused, n Discarded));
   small = subst (All IsSmall) (sym out) (All-nil IsSmall);
 }
 

@@ -5,8 +5,7 @@ use Rattle.crossbeam_queue.specs.Passes.{view}
 use Rattle.group_jobs.specs.Dockets.{Kept}
 use Rattle.group_jobs.specs.declared.fate.Fate.{Fate}
 use Rattle.group_jobs.specs.Stamps.{Held, job_of}
-use Rattle.group_jobs.specs.declared.fate.Fate.TheVariants.{Acknowledged, Refused}
-use Rattle.group_jobs.specs.Settled.{settled_as, runs_of, least_spare}
+use Rattle.group_jobs.specs.Settled.{fates, settled_as, runs_of, least_spare}
 use Rattle.dispatch_core.specs.declared.event.Job.{Job}
 use Rattle.group_jobs.specs.declared.ledger.Ledger.{Ledger}
 use Rattle.group_jobs.specs.declared.stamp.Stamp.{Stamp}
@@ -61,7 +60,7 @@ pub record HasGathered (group : GroupId) (places : List PlaceState) (old new : H
 
 -- how many jobs a place settled and did not give to the group's ledger
 abbrev pub ended : PlaceState → ℕ
-ended place = length (settled_as Acknowledged place.docket.settled) + length (settled_as Refused place.docket.settled)
+ended place = sum_by (λ fate. length (settled_as fate place.docket.settled)) fates
 
 -- there is room for all that was accepted, but what was settled, and gathered in this ledger or not, and what is out
 abbrev pub IsRoomFor : List PortState → List PlaceState → Ledger → ℕ → Type 0
@@ -82,7 +81,7 @@ pub record AreReady (count : ℕ) (ports : List PortState) (places : List PlaceS
 
 -- in how many runs the jobs are that a place settled and did not give to the group's ledger
 abbrev pub runs_kept : PlaceState → ℕ
-runs_kept place = length (runs_of Acknowledged place.docket.settled) + length (runs_of Refused place.docket.settled)
+runs_kept place = sum_by (λ fate. length (runs_of fate place.docket.settled)) fates
 
 -- the lists have room for no more than what there is: a number for each port, the envelopes, a docket for each place, and what the ports sent
 pub record IsBounded (count : ℕ) (ports : List PortState) (places : List PlaceState) (held : List Held) (lists : Lists) : Type 0 where

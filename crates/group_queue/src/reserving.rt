@@ -90,7 +90,7 @@ fn room_for<W: Witness>(holder: &mut Holder, places: &[Place<W>]) -> Result<(), 
     holder.reserve(runs_in_all(places)?)
 }
 
-// In how many runs the jobs that all places settled are, counting at each place the fate that has more of them.
+// In how many runs the jobs that all places settled are, counting at each place the fate that has most of them.
 fn runs_in_all<W: Witness>(places: &[Place<W>]) -> Result<usize, JobError>
     ensures enough { IfOk result (λ runs. (fate : fate_type) → sum_by (λ place. length (runs_of fate place.docket.settled)) places.now ≤ runs) }
     ensures no_more { IfOk result (λ runs. runs ≤ sum_by runs_kept places.now) }
@@ -105,7 +105,7 @@ fn runs_in_all<W: Witness>(places: &[Place<W>]) -> Result<usize, JobError>
     Ok(total)
 }
 
-// In how many runs the jobs are that a place settled, of the fate that has more of them.
+// In how many runs the jobs are that a place settled, of the fate that has most of them.
 fn most_runs<W: Witness>(place: &Place<W>) -> usize
     ensures each { (fate : fate_type) → length (runs_of fate place.now.docket.settled) ≤ result }
     ensures no_more { result ≤ runs_kept place.now }
@@ -113,7 +113,8 @@ fn most_runs<W: Witness>(place: &Place<W>) -> usize
     let settled = place.docket.settled();
     let acknowledged = settled.acknowledged.run_count();
     let refused = settled.refused.run_count();
-    acknowledged.max(refused)
+    let discarded = settled.discarded.run_count();
+    acknowledged.max(refused).max(discarded)
 }
 
 // For how many messages there has to be room: what was accepted and is neither settled nor out.
