@@ -7,9 +7,9 @@ import subprocess
 import threading
 
 REPORT = re.compile(
-    r"(\$share/\S+) accepted (\d+) acknowledged (\d+) refused (\d+) held (\d+) queued (\d+) returned (\d+)"
+    r"(\$share/\S+) accepted (\d+) acknowledged (\d+) refused (\d+) held (\d+) queued (\d+) returned (\d+) discarded (\d+)"
 )
-FATES = ("acknowledged", "refused", "held", "queued", "returned")
+FATES = ("acknowledged", "refused", "held", "queued", "returned", "discarded")
 
 
 def text(value):

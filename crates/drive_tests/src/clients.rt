@@ -22,7 +22,7 @@ pub(crate) const JOB: &[u8] = b"320900036A6F6200070041\n";
 pub(crate) const MEMBER_OUT: &[u8] = b"\
 200e00000b2401250027000100002900
 900400010001
-$share/g/job accepted 0 acknowledged 0 refused 0 held 0 queued 0 returned 0
+$share/g/job accepted 0 acknowledged 0 refused 0 held 0 queued 0 returned 0 discarded 0
 ";
 
 /// What goes out for a CONNECT, a SUBSCRIBE and a PUBLISH.
@@ -31,7 +31,7 @@ pub(crate) const FIRST_JOB_OUT: &[u8] = b"\
 900400010001
 40020007
 320900036a6f6200010041
-$share/g/job accepted 1 acknowledged 0 refused 0 held 0 queued 0 returned 1
+$share/g/job accepted 1 acknowledged 0 refused 0 held 0 queued 0 returned 1 discarded 0
 ";
 
 // Each run has a name, and below it the lines that come in, each with what goes out for it after `> `.
@@ -47,7 +47,7 @@ subscribe
 > 200e00000b2401250027000100002900
 8212000100000C2473686172652F672F6A6F6201
 > 900400010001
-> $share/g/job accepted 0 acknowledged 0 refused 0 held 0 queued 0 returned 0
+> $share/g/job accepted 0 acknowledged 0 refused 0 held 0 queued 0 returned 0 discarded 0
 
 first_job
 100F00044D5154540502003C0000027731
@@ -57,7 +57,7 @@ first_job
 320900036A6F6200070041
 > 40020007
 > 320900036a6f6200010041
-> $share/g/job accepted 1 acknowledged 0 refused 0 held 0 queued 0 returned 1
+> $share/g/job accepted 1 acknowledged 0 refused 0 held 0 queued 0 returned 1 discarded 0
 
 no_group_matches
 100F00044D5154540502003C0000027731
@@ -66,7 +66,7 @@ no_group_matches
 > 900400010001
 320A00046E6F6E6500070041
 > 4003000710
-> $share/g/job accepted 0 acknowledged 0 refused 0 held 0 queued 0 returned 0
+> $share/g/job accepted 0 acknowledged 0 refused 0 held 0 queued 0 returned 0 discarded 0
 
 acknowledged_job
 100F00044D5154540502003C0000027731
@@ -77,7 +77,7 @@ acknowledged_job
 > 40020007
 > 320900036a6f6200010041
 40020001
-> $share/g/job accepted 1 acknowledged 1 refused 0 held 0 queued 0 returned 0
+> $share/g/job accepted 1 acknowledged 1 refused 0 held 0 queued 0 returned 0 discarded 0
 
 refused_job
 100F00044D5154540502003C0000027731
@@ -88,7 +88,7 @@ refused_job
 > 40020007
 > 320900036a6f6200010041
 4003000180
-> $share/g/job accepted 1 acknowledged 0 refused 1 held 0 queued 0 returned 0
+> $share/g/job accepted 1 acknowledged 0 refused 1 held 0 queued 0 returned 0 discarded 0
 
 unknown_identifier
 100F00044D5154540502003C0000027731
@@ -99,7 +99,7 @@ unknown_identifier
 > 40020007
 > 320900036a6f6200010041
 40020002
-> $share/g/job accepted 1 acknowledged 0 refused 0 held 0 queued 0 returned 1
+> $share/g/job accepted 1 acknowledged 0 refused 0 held 0 queued 0 returned 1 discarded 0
 
 disconnect
 100F00044D5154540502003C0000027731
@@ -110,7 +110,7 @@ disconnect
 > 40020007
 > 320900036a6f6200010041
 E000
-> $share/g/job accepted 1 acknowledged 0 refused 0 held 0 queued 0 returned 1
+> $share/g/job accepted 1 acknowledged 0 refused 0 held 0 queued 0 returned 1 discarded 0
 
 nothing_after_a_close
 100F00044D5154540502003C0000027731
@@ -119,7 +119,7 @@ nothing_after_a_close
 > 900400010001
 E000
 320900036A6F6200070041
-> $share/g/job accepted 0 acknowledged 0 refused 0 held 0 queued 0 returned 0
+> $share/g/job accepted 0 acknowledged 0 refused 0 held 0 queued 0 returned 0 discarded 0
 
 ping_and_second_connect
 100F00044D5154540502003C0000027731
@@ -138,7 +138,7 @@ nothing_after_a_fault
 00
 > e00181
 320900036A6F6200070041
-> $share/g/job accepted 0 acknowledged 0 refused 0 held 0 queued 0 returned 0
+> $share/g/job accepted 0 acknowledged 0 refused 0 held 0 queued 0 returned 0 discarded 0
 
 same_share_and_another
 100F00044D5154540502003C0000027731
@@ -149,14 +149,14 @@ same_share_and_another
 > 900400010001
 8212000200000C2473686172652F682F6A6F6201
 > 900400020097
-> $share/g/job accepted 0 acknowledged 0 refused 0 held 0 queued 0 returned 0
+> $share/g/job accepted 0 acknowledged 0 refused 0 held 0 queued 0 returned 0 discarded 0
 
 share_and_plain_filter
 100F00044D5154540502003C0000027731
 > 200e00000b2401250027000100002900
 8218000100000C2473686172652F672F6A6F620100036A6F6201
 > 90050001000183
-> $share/g/job accepted 0 acknowledged 0 refused 0 held 0 queued 0 returned 0
+> $share/g/job accepted 0 acknowledged 0 refused 0 held 0 queued 0 returned 0 discarded 0
 
 leaving_with_a_job: free for another group once the job is acknowledged
 100F00044D5154540502003C0000027731
@@ -173,8 +173,8 @@ A211000200000C2473686172652F672F6A6F62
 40020001
 8212000300000C2473686172652F682F6A6F6201
 > 900400030001
-> $share/g/job accepted 1 acknowledged 1 refused 0 held 0 queued 0 returned 0
-> $share/h/job accepted 0 acknowledged 0 refused 0 held 0 queued 0 returned 0
+> $share/g/job accepted 1 acknowledged 1 refused 0 held 0 queued 0 returned 0 discarded 0
+> $share/h/job accepted 0 acknowledged 0 refused 0 held 0 queued 0 returned 0 discarded 0
 
 property_order
 100F00044D5154540502003C0000027731
@@ -184,7 +184,7 @@ property_order
 321400036A6F6200070B2600016B0001760300016141
 > 40020007
 > 321400036a6f6200010b030001612600016b00017641
-> $share/g/job accepted 1 acknowledged 0 refused 0 held 0 queued 0 returned 1
+> $share/g/job accepted 1 acknowledged 0 refused 0 held 0 queued 0 returned 1 discarded 0
 
 receive_maximum_of_one
 101200044D5154540502003C0321000100027731
@@ -200,7 +200,7 @@ receive_maximum_of_one
 > 40020009
 40020001
 > 320900036a6f6200010042
-> $share/g/job accepted 3 acknowledged 1 refused 0 held 0 queued 1 returned 1
+> $share/g/job accepted 3 acknowledged 1 refused 0 held 0 queued 1 returned 1 discarded 0
 
 session_that_goes_on
 101700044D5154540502003C081100000E1021000A00027731
@@ -210,7 +210,7 @@ session_that_goes_on
 320900036A6F6200070041
 > 40020007
 > 320900036a6f6200010041
-> $share/g/job accepted 1 acknowledged 0 refused 0 held 1 queued 0 returned 0
+> $share/g/job accepted 1 acknowledged 0 refused 0 held 1 queued 0 returned 0 discarded 0
 
 session_ended_at_the_end
 101700044D5154540502003C081100000E1021000A00027731
@@ -221,7 +221,7 @@ session_ended_at_the_end
 > 40020007
 > 320900036a6f6200010041
 E00700051100000000
-> $share/g/job accepted 1 acknowledged 0 refused 0 held 0 queued 0 returned 1
+> $share/g/job accepted 1 acknowledged 0 refused 0 held 0 queued 0 returned 1 discarded 0
 
 client_of_small_packets
 101400044D5154540502003C05270000004000027731
@@ -238,7 +238,7 @@ message_expiry_refused
 > 900400010001
 320E00036A6F62000705020000000A41
 > 4003000783
-> $share/g/job accepted 0 acknowledged 0 refused 0 held 0 queued 0 returned 0
+> $share/g/job accepted 0 acknowledged 0 refused 0 held 0 queued 0 returned 0 discarded 0
 
 no_connect_first
 8212000100000C2473686172652F672F6A6F6201
@@ -330,7 +330,7 @@ fn full_queue(rt: HostRuntime) {
 > 40020008
 320900036A6F6200090043
 > 4003000997
-> $share/g/job accepted 2 acknowledged 0 refused 0 held 0 queued 2 returned 0",
+> $share/g/job accepted 2 acknowledged 0 refused 0 held 0 queued 2 returned 0 discarded 0",
     );
 }
 
@@ -349,8 +349,8 @@ fn two_groups(rt: HostRuntime) {
 > 40020007
 320900036A6F6200080042
 > 4003000897
-> $share/a/job accepted 1 acknowledged 0 refused 0 held 0 queued 1 returned 0
-> $share/g/+ accepted 1 acknowledged 0 refused 0 held 0 queued 1 returned 0",
+> $share/a/job accepted 1 acknowledged 0 refused 0 held 0 queued 1 returned 0 discarded 0
+> $share/g/+ accepted 1 acknowledged 0 refused 0 held 0 queued 1 returned 0 discarded 0",
     );
 }
 
@@ -377,13 +377,13 @@ fn ninth_share(rt: HostRuntime) {
 > 200e00000b2401250027000100002900
 8212000100000C2473686172652F672F6A6F6201
 > 900400010097
-> $share/1/a accepted 0 acknowledged 0 refused 0 held 0 queued 0 returned 0
-> $share/2/a accepted 0 acknowledged 0 refused 0 held 0 queued 0 returned 0
-> $share/3/a accepted 0 acknowledged 0 refused 0 held 0 queued 0 returned 0
-> $share/4/a accepted 0 acknowledged 0 refused 0 held 0 queued 0 returned 0
-> $share/5/a accepted 0 acknowledged 0 refused 0 held 0 queued 0 returned 0
-> $share/6/a accepted 0 acknowledged 0 refused 0 held 0 queued 0 returned 0
-> $share/7/a accepted 0 acknowledged 0 refused 0 held 0 queued 0 returned 0
-> $share/8/a accepted 0 acknowledged 0 refused 0 held 0 queued 0 returned 0",
+> $share/1/a accepted 0 acknowledged 0 refused 0 held 0 queued 0 returned 0 discarded 0
+> $share/2/a accepted 0 acknowledged 0 refused 0 held 0 queued 0 returned 0 discarded 0
+> $share/3/a accepted 0 acknowledged 0 refused 0 held 0 queued 0 returned 0 discarded 0
+> $share/4/a accepted 0 acknowledged 0 refused 0 held 0 queued 0 returned 0 discarded 0
+> $share/5/a accepted 0 acknowledged 0 refused 0 held 0 queued 0 returned 0 discarded 0
+> $share/6/a accepted 0 acknowledged 0 refused 0 held 0 queued 0 returned 0 discarded 0
+> $share/7/a accepted 0 acknowledged 0 refused 0 held 0 queued 0 returned 0 discarded 0
+> $share/8/a accepted 0 acknowledged 0 refused 0 held 0 queued 0 returned 0 discarded 0",
     );
 }

@@ -174,7 +174,7 @@ const SAID: &[u8] = b"\
 7 200e00000b2401250027000100002900
 7 900400010001
 7 close
-$share/g/job accepted 0 acknowledged 0 refused 0 held 0 queued 0 returned 0
+$share/g/job accepted 0 acknowledged 0 refused 0 held 0 queued 0 returned 0 discarded 0
 ";
 
 /// A writer that fails after each byte of the output has the bytes up to there.

@@ -29,7 +29,7 @@ const LIMIT_OF_TWO: Scenario<'static> = Scenario {
 > 0 320900036a6f6200010043
 0 end 0
 > 0 close
-> $share/g/job accepted 3 acknowledged 1 refused 0 held 0 queued 0 returned 2
+> $share/g/job accepted 3 acknowledged 1 refused 0 held 0 queued 0 returned 2 discarded 0
 ",
 };
 

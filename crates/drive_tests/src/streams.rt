@@ -136,7 +136,7 @@ fn largest_packet(rt: HostRuntime) -> Result<(), Fail> {
             SUBACK,
             b"40020007\n32fcff0300036a6f62000100",
             &payload,
-            b"\n$share/g/job accepted 1 acknowledged 0 refused 0 held 0 queued 0 returned 1\n",
+            b"\n$share/g/job accepted 1 acknowledged 0 refused 0 held 0 queued 0 returned 1 discarded 0\n",
         ],
     )?;
     let written = answered(rt.alloc(), plain(rt.alloc()), &input)?;
@@ -162,7 +162,7 @@ fn most_jobs_out(rt: HostRuntime) -> Result<(), Fail> {
         output.extend_from_slice(line.as_bytes())?;
     }
     output.extend_from_slice(
-        b"40020007\n$share/g/job accepted 257 acknowledged 0 refused 0 held 0 queued 1 returned 256\n",
+        b"40020007\n$share/g/job accepted 257 acknowledged 0 refused 0 held 0 queued 1 returned 256 discarded 0\n",
     )?;
     let written = run_of_jobs(rt.alloc(), 257)?;
     assert!(rt; written.as_slice() == output.as_slice());
@@ -174,7 +174,7 @@ fn most_jobs_out(rt: HostRuntime) -> Result<(), Fail> {
 fn full_queue(rt: HostRuntime) -> Result<(), Fail> {
     let written = run_of_jobs(rt.alloc(), 1_281)?;
     let end =
-        b"4003000797\n$share/g/job accepted 1280 acknowledged 0 refused 0 held 0 queued 1024 returned 256\n";
+        b"4003000797\n$share/g/job accepted 1280 acknowledged 0 refused 0 held 0 queued 1024 returned 256 discarded 0\n";
     assert!(rt; written.ends_with(end));
     Ok(())
 }

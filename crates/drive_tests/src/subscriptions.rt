@@ -7,7 +7,7 @@ exactly_once_is_granted_at_least_once
 > 200e00000b2401250027000100002900
 8212000100000C2473686172652F672F6A6F6202
 > 900400010001
-> $share/g/job accepted 0 acknowledged 0 refused 0 held 0 queued 0 returned 0
+> $share/g/job accepted 0 acknowledged 0 refused 0 held 0 queued 0 returned 0 discarded 0
 
 member_of_a_wildcard
 100F00044D5154540502003C0000027731
@@ -21,7 +21,7 @@ member_of_a_wildcard
 > 4003000810
 320A000424612F6200090043
 > 4003000910
-> $share/g/+/b accepted 1 acknowledged 0 refused 0 held 0 queued 0 returned 1
+> $share/g/+/b accepted 1 acknowledged 0 refused 0 held 0 queued 0 returned 1 discarded 0
 
 unsubscribe
 100F00044D5154540502003C0000027731
@@ -34,5 +34,5 @@ A211000300000C2473686172652F672F6A6F62
 > b00400030011
 320900036A6F6200070041
 > 40020007
-> $share/g/job accepted 1 acknowledged 0 refused 0 held 0 queued 1 returned 0
+> $share/g/job accepted 1 acknowledged 0 refused 0 held 0 queued 1 returned 0 discarded 0
 ";

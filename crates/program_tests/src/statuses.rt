@@ -68,7 +68,7 @@ const COMMANDS: [(&str, &str, &str); 4] = [
 40020007
 40020008
 4003000997
-$share/g/job accepted 2 acknowledged 0 refused 0 held 0 queued 2 returned 0
+$share/g/job accepted 2 acknowledged 0 refused 0 held 0 queued 2 returned 0 discarded 0
 ",
     ),
     (
@@ -87,7 +87,7 @@ $share/g/job accepted 2 acknowledged 0 refused 0 held 0 queued 2 returned 0
 0 40020008
 0 4003000997
 0 close
-$share/g/job accepted 2 acknowledged 0 refused 0 held 0 queued 2 returned 0
+$share/g/job accepted 2 acknowledged 0 refused 0 held 0 queued 2 returned 0 discarded 0
 ",
     ),
 ];

@@ -18,7 +18,7 @@ pub(crate) const PLAYS: [Scenario<'static>; 9] = [
 > 0 320900036a6f6200010041
 0 end 0
 > 0 close
-> $share/g/job accepted 1 acknowledged 0 refused 0 held 0 queued 0 returned 1
+> $share/g/job accepted 1 acknowledged 0 refused 0 held 0 queued 0 returned 1 discarded 0
 ",
     },
     Scenario {
@@ -42,7 +42,7 @@ pub(crate) const PLAYS: [Scenario<'static>; 9] = [
 > 0 320900036a6f6200010042
 0 end 0
 > 0 close
-> $share/g/job accepted 3 acknowledged 1 refused 0 held 0 queued 1 returned 1
+> $share/g/job accepted 3 acknowledged 1 refused 0 held 0 queued 1 returned 1 discarded 0
 ",
     },
     Scenario {
@@ -62,7 +62,7 @@ pub(crate) const PLAYS: [Scenario<'static>; 9] = [
 0 close
 > 0 e0018b
 > 0 close
-> $share/g/job accepted 1 acknowledged 0 refused 1 held 0 queued 0 returned 0
+> $share/g/job accepted 1 acknowledged 0 refused 1 held 0 queued 0 returned 0 discarded 0
 ",
     },
     // w1 is handed the first job of p and goes; its session is given up, and w2 is handed the job.
@@ -102,7 +102,7 @@ pub(crate) const PLAYS: [Scenario<'static>; 9] = [
 > 1 close
 > 2 e0018b
 > 2 close
-> $share/g/job accepted 1 acknowledged 0 refused 0 held 1 queued 0 returned 0
+> $share/g/job accepted 1 acknowledged 0 refused 0 held 1 queued 0 returned 0 discarded 0
 ",
     },
     // The same, but w2 is handed a second job before: the first one comes to it out of order.
@@ -147,7 +147,7 @@ pub(crate) const PLAYS: [Scenario<'static>; 9] = [
 > 1 close
 > 2 e0018b
 > 2 close
-> $share/g/job accepted 2 acknowledged 1 refused 0 held 1 queued 0 returned 0
+> $share/g/job accepted 2 acknowledged 1 refused 0 held 1 queued 0 returned 0 discarded 0
 ",
     },
     Scenario {
@@ -166,7 +166,7 @@ pub(crate) const PLAYS: [Scenario<'static>; 9] = [
 > 0 4003000997
 0 end 0
 > 0 close
-> $share/g/job accepted 2 acknowledged 0 refused 0 held 0 queued 2 returned 0
+> $share/g/job accepted 2 acknowledged 0 refused 0 held 0 queued 2 returned 0 discarded 0
 ",
     },
     // Two groups match job. The second job finds one of them full: the other one has it, and its publisher hears of the one that has it
@@ -191,9 +191,9 @@ pub(crate) const PLAYS: [Scenario<'static>; 9] = [
 > 0 4003000997
 0 end 0
 > 0 close
-> $share/g/job accepted 2 acknowledged 0 refused 0 held 0 queued 0 returned 2
-> $share/h/# accepted 1 acknowledged 0 refused 0 held 0 queued 1 returned 0
-> $share/i/other accepted 0 acknowledged 0 refused 0 held 0 queued 0 returned 0
+> $share/g/job accepted 2 acknowledged 0 refused 0 held 0 queued 0 returned 2 discarded 0
+> $share/h/# accepted 1 acknowledged 0 refused 0 held 0 queued 1 returned 0 discarded 0
+> $share/i/other accepted 0 acknowledged 0 refused 0 held 0 queued 0 returned 0 discarded 0
 ",
     },
     // Eight groups have names: each takes the job, a ninth gets none, and a member of the eighth is handed it.
@@ -224,14 +224,14 @@ pub(crate) const PLAYS: [Scenario<'static>; 9] = [
 0 bytes 0 40020001
 0 end 0
 > 0 close
-> $share/a/job accepted 1 acknowledged 0 refused 0 held 0 queued 1 returned 0
-> $share/b/job accepted 1 acknowledged 0 refused 0 held 0 queued 1 returned 0
-> $share/c/job accepted 1 acknowledged 0 refused 0 held 0 queued 1 returned 0
-> $share/d/job accepted 1 acknowledged 0 refused 0 held 0 queued 1 returned 0
-> $share/e/job accepted 1 acknowledged 0 refused 0 held 0 queued 1 returned 0
-> $share/f/job accepted 1 acknowledged 0 refused 0 held 0 queued 1 returned 0
-> $share/g/job accepted 1 acknowledged 0 refused 0 held 0 queued 1 returned 0
-> $share/h/job accepted 1 acknowledged 1 refused 0 held 0 queued 0 returned 0
+> $share/a/job accepted 1 acknowledged 0 refused 0 held 0 queued 1 returned 0 discarded 0
+> $share/b/job accepted 1 acknowledged 0 refused 0 held 0 queued 1 returned 0 discarded 0
+> $share/c/job accepted 1 acknowledged 0 refused 0 held 0 queued 1 returned 0 discarded 0
+> $share/d/job accepted 1 acknowledged 0 refused 0 held 0 queued 1 returned 0 discarded 0
+> $share/e/job accepted 1 acknowledged 0 refused 0 held 0 queued 1 returned 0 discarded 0
+> $share/f/job accepted 1 acknowledged 0 refused 0 held 0 queued 1 returned 0 discarded 0
+> $share/g/job accepted 1 acknowledged 0 refused 0 held 0 queued 1 returned 0 discarded 0
+> $share/h/job accepted 1 acknowledged 1 refused 0 held 0 queued 0 returned 0 discarded 0
 ",
     },
     // A client that leaves its group keeps what it holds, and is handed nothing fresh; the group stays.
@@ -256,7 +256,7 @@ pub(crate) const PLAYS: [Scenario<'static>; 9] = [
 90000 tick 0
 > 0 e0018d
 > 0 close
-> $share/g/job accepted 1 acknowledged 0 refused 0 held 0 queued 1 returned 0
+> $share/g/job accepted 1 acknowledged 0 refused 0 held 0 queued 1 returned 0 discarded 0
 ",
     },
 ];

@@ -135,7 +135,7 @@ pub(crate) const PLAYS: [Scenario<'static>; 11] = [
 > 0 4003000783
 0 end 0
 > 0 close
-> $share/g/job accepted 1 acknowledged 0 refused 0 held 0 queued 0 returned 1
+> $share/g/job accepted 1 acknowledged 0 refused 0 held 0 queued 0 returned 1 discarded 0
 ",
     },
     // A stream in pieces, several packets in one, and a number that is opened again.
@@ -170,7 +170,7 @@ pub(crate) const PLAYS: [Scenario<'static>; 11] = [
 > 0 200e00000b2401250027000100002900
 5 end 0
 > 0 close
-> $share/g/job accepted 1 acknowledged 1 refused 0 held 0 queued 0 returned 0
+> $share/g/job accepted 1 acknowledged 1 refused 0 held 0 queued 0 returned 0 discarded 0
 ",
     },
 ];

@@ -45,7 +45,7 @@ pub(crate) const PLAYS: [Scenario<'static>; 7] = [
 6 close
 > 1 e0018b
 > 1 close
-> $share/g/job accepted 5 acknowledged 4 refused 0 held 1 queued 0 returned 0
+> $share/g/job accepted 5 acknowledged 4 refused 0 held 1 queued 0 returned 0 discarded 0
 ",
     },
     Scenario {
@@ -69,7 +69,7 @@ pub(crate) const PLAYS: [Scenario<'static>; 7] = [
 9 close
 > 1 e0018b
 > 1 close
-> $share/g/job accepted 0 acknowledged 0 refused 0 held 0 queued 0 returned 0
+> $share/g/job accepted 0 acknowledged 0 refused 0 held 0 queued 0 returned 0 discarded 0
 ",
     },
     // What comes while a connection waits for its session is read after the Tick that gives it.
@@ -100,7 +100,7 @@ pub(crate) const PLAYS: [Scenario<'static>; 7] = [
 9 close
 > 63 e0018b
 > 63 close
-> $share/g/job accepted 1 acknowledged 0 refused 0 held 1 queued 0 returned 0
+> $share/g/job accepted 1 acknowledged 0 refused 0 held 1 queued 0 returned 0 discarded 0
 ",
     },
     // A moment that is less than an earlier one is that one: no time goes on.
@@ -167,7 +167,7 @@ pub(crate) const PLAYS: [Scenario<'static>; 7] = [
 0 close
 > 0 e0018b
 > 0 close
-> $share/g/job accepted 1 acknowledged 0 refused 0 held 1 queued 0 returned 0
+> $share/g/job accepted 1 acknowledged 0 refused 0 held 1 queued 0 returned 0 discarded 0
 ",
     },
 ];

@@ -163,6 +163,7 @@ impl Night {
             held,
             queued,
             returned,
+            discarded,
         ] = numbers.as_slice()
         else {
             return Err(Wrong::Report);
@@ -171,13 +172,15 @@ impl Night {
             .saturating_add(*refused)
             .saturating_add(*held)
             .saturating_add(*queued)
-            .saturating_add(*returned);
+            .saturating_add(*returned)
+            .saturating_add(*discarded);
         if fates != *accepted {
             return Err(Wrong::Report);
         }
         let is_as_seen = *accepted == saw.accepted
             && *acknowledged == saw.acknowledged
             && *refused == saw.refused
+            && *discarded == 0
             && *held >= saw.held
             && *held <= saw.held.saturating_add(saw.open);
         if is_as_seen {

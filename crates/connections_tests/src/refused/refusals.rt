@@ -62,15 +62,15 @@ fn each_give_back(rt: HostRuntime) {
     let rows = [
         (
             1,
-            "$share/g/job accepted 3 acknowledged 0 refused 0 held 3 queued 0 returned 0\n",
+            "$share/g/job accepted 3 acknowledged 0 refused 0 held 3 queued 0 returned 0 discarded 0\n",
         ),
         (
             2,
-            "$share/g/job accepted 3 acknowledged 0 refused 0 held 2 queued 0 returned 1\n",
+            "$share/g/job accepted 3 acknowledged 0 refused 0 held 2 queued 0 returned 1 discarded 0\n",
         ),
         (
             3,
-            "$share/g/job accepted 3 acknowledged 0 refused 0 held 1 queued 0 returned 2\n",
+            "$share/g/job accepted 3 acknowledged 0 refused 0 held 1 queued 0 returned 2 discarded 0\n",
         ),
     ];
     for (number, left) in rows.iter() {
@@ -92,12 +92,12 @@ fn each_give_back(rt: HostRuntime) {
         shared_broker.tick(&rt, 2, &[]);
         shared_broker.report(
             &rt,
-            "$share/g/job accepted 3 acknowledged 0 refused 0 held 0 queued 0 returned 3\n",
+            "$share/g/job accepted 3 acknowledged 0 refused 0 held 0 queued 0 returned 3 discarded 0\n",
         );
         shared_broker.bytes(&rt, 1, SUBSCRIBE, &[SUBACK, FRESH]);
         shared_broker.report(
             &rt,
-            "$share/g/job accepted 3 acknowledged 0 refused 0 held 3 queued 0 returned 0\n",
+            "$share/g/job accepted 3 acknowledged 0 refused 0 held 3 queued 0 returned 0 discarded 0\n",
         );
         shared_broker.abandon();
     }
@@ -123,7 +123,7 @@ fn each_take(rt: HostRuntime) {
         shared_broker.bytes(&rt, 0, KEPT_MEMBER, &[RESUMED, again]);
         shared_broker.report(
             &rt,
-            "$share/g/job accepted 3 acknowledged 0 refused 0 held 3 queued 0 returned 0\n",
+            "$share/g/job accepted 3 acknowledged 0 refused 0 held 3 queued 0 returned 0 discarded 0\n",
         );
         shared_broker.abandon();
     }
@@ -135,15 +135,15 @@ fn each_offer(rt: HostRuntime) {
     let rows: [(&[&[u8]], &str); 3] = [
         (
             &[],
-            "$share/g/job accepted 0 acknowledged 0 refused 0 held 0 queued 0 returned 0\n",
+            "$share/g/job accepted 0 acknowledged 0 refused 0 held 0 queued 0 returned 0 discarded 0\n",
         ),
         (
             &[TAKEN[0]],
-            "$share/g/job accepted 1 acknowledged 0 refused 0 held 0 queued 1 returned 0\n",
+            "$share/g/job accepted 1 acknowledged 0 refused 0 held 0 queued 1 returned 0 discarded 0\n",
         ),
         (
             &[TAKEN[0], TAKEN[1]],
-            "$share/g/job accepted 2 acknowledged 0 refused 0 held 0 queued 2 returned 0\n",
+            "$share/g/job accepted 2 acknowledged 0 refused 0 held 0 queued 2 returned 0 discarded 0\n",
         ),
     ];
     for (number, (written, report)) in (1..=3).zip(rows.iter()) {

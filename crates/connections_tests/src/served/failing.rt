@@ -10,10 +10,10 @@ use std::sync::Wait;
 
 /// The report of `$share/g/job`, where no job came, and where one came and is given back.
 const NO_JOB: &str =
-    "$share/g/job accepted 0 acknowledged 0 refused 0 held 0 queued 0 returned 0\n";
+    "$share/g/job accepted 0 acknowledged 0 refused 0 held 0 queued 0 returned 0 discarded 0\n";
 
 const ONE_JOB: &str =
-    "$share/g/job accepted 1 acknowledged 0 refused 0 held 0 queued 0 returned 1\n";
+    "$share/g/job accepted 1 acknowledged 0 refused 0 held 0 queued 0 returned 1 discarded 0\n";
 
 /// What becomes of the job where the transport takes so many bytes and then fails.
 fn report_at(room: usize) -> Option<&'static str> {

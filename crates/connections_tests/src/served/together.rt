@@ -210,7 +210,7 @@ const PUBLISHES: &[ReadTurn] = &[
 ];
 
 /// What is left of them: two that were handed out are given back.
-const LEFT: &str = "$share/g/job accepted 4 acknowledged 0 refused 0 held 0 queued 2 returned 2\n";
+const LEFT: &str = "$share/g/job accepted 4 acknowledged 0 refused 0 held 0 queued 2 returned 2 discarded 0\n";
 
 /// A CONNECT of client `w1` with a Receive Maximum of 256, a SUBSCRIBE and a PINGREQ, which is never read.
 const MEMBER: &[u8] =

@@ -113,6 +113,51 @@ fn settled_after_close(rt: HostRuntime) -> Result<(), Fail> {
     Ok(())
 }
 
+// A job that was handed out is discarded, after the close too.
+#[test]
+fn discarded_after_close(rt: HostRuntime) -> Result<(), Fail> {
+    let member = 4;
+    let job = job(5, 0);
+    let state = after(
+        rt.alloc(),
+        &[
+            Event::Accept { port: 5 },
+            Event::First { member, job },
+            Event::Close,
+            Event::Discard { member, job },
+        ],
+    )
+    .ok_or("a state")?;
+    assert_same(&rt, &state.spot(job), &Some(Spot::Discarded(4)));
+    assert_items(&rt, state.firsts(4), [job].as_slice());
+    Ok(())
+}
+
+// What was discarded is handed to nobody, and neither settled again nor given back.
+#[test]
+fn discarded_for_good(rt: HostRuntime) -> Result<(), Fail> {
+    let member = 4;
+    let job = job(5, 0);
+    let events = [
+        Event::Accept { port: 5 },
+        Event::First { member, job },
+        Event::Discard { member, job },
+    ];
+    let mut state = after(rt.alloc(), &events).ok_or("a state")?;
+    for (event, why) in [
+        (Event::First { member: 3, job }, Why::NotQueued),
+        (Event::Again { member: 3, job }, Why::NotReturned),
+        (Event::Discard { member, job }, Why::NotHeld),
+        (Event::Ack { member, job }, Why::NotHeld),
+        (Event::Refuse { member, job }, Why::NotHeld),
+        (Event::Back { member, job }, Why::NotHeld),
+    ] {
+        assert_same(&rt, &state.step(event), &Err(StepError::Stuck { why }));
+    }
+    assert_same(&rt, &state.spot(job), &Some(Spot::Discarded(4)));
+    Ok(())
+}
+
 /// Where a replay of these events stops, and why.
 fn stop(alloc: Global, events: [Event; 3]) -> Option<(usize, Why)> {
     match replay(alloc, &events) {
@@ -154,6 +199,7 @@ fn reasons_of_holders(rt: HostRuntime) {
     for (event, why) in [
         (Event::Ack { member: 4, job }, Why::NotHeld),
         (Event::Refuse { member: 4, job }, Why::NotHeld),
+        (Event::Discard { member: 4, job }, Why::NotHeld),
         (Event::Back { member: 4, job }, Why::NotHeld),
         (Event::Again { member: 3, job }, Why::NotReturned),
     ] {
@@ -187,6 +233,7 @@ fn names_in_events(rt: HostRuntime) {
         Event::First { member: 2, job },
         Event::Ack { member: 2, job },
         Event::Refuse { member: 2, job },
+        Event::Discard { member: 2, job },
         Event::Back { member: 2, job },
         Event::Again { member: 2, job },
     ] {

@@ -108,6 +108,7 @@ fn refused_calls_made_again(rt: HostRuntime) -> Result<(), Fail> {
             .contains(Job { port: 0, number: 0 })
     );
     assert!(rt; report.settled.refused.is_empty());
+    assert!(rt; report.settled.discarded.is_empty());
     assert_items(
         &rt,
         report.held.as_slice(),

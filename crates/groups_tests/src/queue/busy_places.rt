@@ -126,9 +126,11 @@ fn assert_whole(rt: &impl Abort, told: &Told, rounds: u32) {
     let messages = u128::from(rounds) * u128::from(PLACES);
     assert_same(rt, &told.report.settled.acknowledged.len(), &messages);
     assert!(rt; told.report.settled.refused.is_empty());
+    assert!(rt; told.report.settled.discarded.is_empty());
     assert!(rt; u128::from(rounds) <= told.runs as u128);
     assert!(rt; told.report.settled.acknowledged.spare() as u128 <= 2 * (told.runs as u128));
     assert!(rt; told.report.settled.refused.spare() as u128 <= 2 * (told.runs as u128));
+    assert!(rt; told.report.settled.discarded.spare() as u128 <= 2 * (told.runs as u128));
 }
 
 #[test]

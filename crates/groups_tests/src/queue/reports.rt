@@ -30,6 +30,7 @@ impl Wanted {
         assert!(rt; report.accepted.as_slice() == self.accepted);
         assert_same(rt, &report.settled.acknowledged.len(), &self.acknowledged);
         assert!(rt; report.settled.refused.is_empty());
+        assert!(rt; report.settled.discarded.is_empty());
         assert_items(rt, &report.held, self.held);
         assert_items(rt, &report.queued, self.queued);
         assert_items(rt, &report.returned, self.returned);

@@ -271,7 +271,7 @@ where
 #[test]
 fn one_job(rt: HostRuntime) {
     let text =
-        b"listening 18830\n$share/g/job accepted 1 acknowledged 1 refused 0 held 0 queued 0 returned 0\n";
+        b"listening 18830\n$share/g/job accepted 1 acknowledged 1 refused 0 held 0 queued 0 returned 0 discarded 0\n";
     compare(&rt, rt.alloc(), &OneJob, text);
 }
 
@@ -286,14 +286,14 @@ fn takeover(rt: HostRuntime) {
 #[test]
 fn resume(rt: HostRuntime) {
     let text =
-        b"listening 18832\n$share/g/job accepted 1 acknowledged 0 refused 0 held 1 queued 0 returned 0\n";
+        b"listening 18832\n$share/g/job accepted 1 acknowledged 0 refused 0 held 1 queued 0 returned 0 discarded 0\n";
     compare(&rt, rt.alloc(), &Resuming, text);
 }
 
 #[test]
 fn a_crowd(rt: HostRuntime) {
     let text =
-        b"listening 18833\n$share/g/job accepted 18 acknowledged 18 refused 0 held 0 queued 0 returned 0\n";
+        b"listening 18833\n$share/g/job accepted 18 acknowledged 18 refused 0 held 0 queued 0 returned 0 discarded 0\n";
     compare(&rt, rt.alloc(), &Crowd, text);
 }
 

@@ -19,6 +19,7 @@ pub(crate) struct Counts {
     pub(crate) held: u128,
     pub(crate) queued: u128,
     pub(crate) returned: u128,
+    pub(crate) discarded: u128,
 }
 
 impl Counts {
@@ -30,6 +31,7 @@ impl Counts {
         held: 0,
         queued: 0,
         returned: 0,
+        discarded: 0,
     };
 }
 
@@ -44,6 +46,7 @@ pub(crate) fn sum_of(counts: &[Counts]) -> Counts {
             held: sum.held.saturating_add(one.held),
             queued: sum.queued.saturating_add(one.queued),
             returned: sum.returned.saturating_add(one.returned),
+            discarded: sum.discarded.saturating_add(one.discarded),
         };
     }
     sum
@@ -62,6 +65,7 @@ fn counts_of(report: &Report) -> Counts {
         held: report.held.len() as u128,
         queued: report.queued.len() as u128,
         returned: report.returned.len() as u128,
+        discarded: report.settled.discarded.len(),
     }
 }
 

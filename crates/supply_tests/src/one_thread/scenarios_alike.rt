@@ -193,9 +193,10 @@ fn counts_line(alloc: Global, counts: &Counts) -> Option<String> {
         held,
         queued,
         returned,
+        discarded,
     } = *counts;
     format!(in alloc;
-        " accepted {accepted} acknowledged {acknowledged} refused {refused} held {held} queued {queued} returned {returned}"
+        " accepted {accepted} acknowledged {acknowledged} refused {refused} held {held} queued {queued} returned {returned} discarded {discarded}"
     ).ok()
 }
 

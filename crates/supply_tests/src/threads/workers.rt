@@ -66,6 +66,7 @@ fn fates_of(counts: &Counts) -> u128 {
         .saturating_add(counts.held)
         .saturating_add(counts.queued)
         .saturating_add(counts.returned)
+        .saturating_add(counts.discarded)
 }
 
 /// So many workers over so many groups: the reports count what the clients saw, and each accepted job has one fate.
@@ -82,6 +83,7 @@ fn compare<R: Threads + Wait + Sync + Abort>(rt: &R, alloc: Global, workers: u8,
     };
     assert_eq!(rt; counts.len(), 8);
     assert_eq!(rt; seen, Some(reported));
+    assert_eq!(rt; sum.discarded, 0);
     assert!(rt; sum.accepted > 0 && sum.acknowledged > 0 && sum.refused > 0);
     assert_eq!(rt; sum.accepted, fates_of(&sum));
 }
