@@ -5,7 +5,7 @@ use dispatch_core::Job;
 use group_jobs::Report;
 use std::process::Abort;
 
-/// What a report is to say: what each port accepted, how many messages were acknowledged, and none refused, and which were held, queued and returned.
+/// What a report is to say: what each port accepted, how many messages were acknowledged, none refused or discarded, and which were held, queued and returned.
 #[derive(Drop)]
 pub struct Wanted {
     pub accepted: &'static [u64],
