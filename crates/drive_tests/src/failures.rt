@@ -171,7 +171,7 @@ const EVENTS: &[u8] = b"\
 
 /// What is said to it.
 const SAID: &[u8] = b"\
-7 200e00000b2401250027000100002900
+7 200c000009240125002700010000
 7 900400010001
 7 close
 $share/g/job accepted 0 acknowledged 0 refused 0 held 0 queued 0 returned 0 discarded 0

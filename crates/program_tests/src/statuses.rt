@@ -12,7 +12,7 @@ use std::test::Fail;
 const CONNECTED: &[u8] = b"100F00044D5154540502003C0000027731\n";
 
 /// The answer to it: a CONNACK with Maximum QoS 1, no retained messages, Maximum Packet Size 65,536 and no subscription identifiers.
-const CONNACK: &str = "200e00000b2401250027000100002900\n";
+const CONNACK: &str = "200c000009240125002700010000\n";
 
 /// How the program ended.
 #[derive(Drop)]
@@ -48,12 +48,12 @@ const COMMANDS: [(&str, &str, &str); 4] = [
     (
         "share_broker solo",
         "100F00044D5154540502003C0000027731\n",
-        "200e00000b2401250027000100002900\n",
+        "200c000009240125002700010000\n",
     ),
     (
         "share_broker drive",
         "0 open 7\n0 bytes 7 100F00044D5154540502003C0000027731\n0 end 7\n",
-        "7 200e00000b2401250027000100002900\n7 close\n",
+        "7 200c000009240125002700010000\n7 close\n",
     ),
     (
         "share_broker solo --capacity 2 --group g:job",
@@ -64,7 +64,7 @@ const COMMANDS: [(&str, &str, &str); 4] = [
 320900036A6F6200090043
 ",
         "\
-200e00000b2401250027000100002900
+200c000009240125002700010000
 40020007
 40020008
 4003000997
@@ -82,7 +82,7 @@ $share/g/job accepted 2 acknowledged 0 refused 0 held 0 queued 2 returned 0 disc
 0 end 0
 ",
         "\
-0 200e00000b2401250027000100002900
+0 200c000009240125002700010000
 0 40020007
 0 40020008
 0 4003000997

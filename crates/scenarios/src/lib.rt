@@ -1,6 +1,7 @@
 //! The scenarios of a server: what happens to its connections, and what is written then, worked out by hand from the standard.
 #![tactic(auto)]
 
+mod identifiers;
 mod jobs;
 mod packets;
 mod scenario;
@@ -9,7 +10,13 @@ mod sessions;
 pub use scenario::{Scenario, ScenarioEvent, What};
 pub use sessions::longest_wait;
 
-/// All scenarios but the one of [`longest_wait`], by what they show: what becomes of jobs, sessions, and single packets.
-pub fn all_scenarios() -> [&'static [Scenario<'static>]; 3] {
-    [&jobs::PLAYS, &sessions::PLAYS, &packets::PLAYS]
+/// All scenarios but the one of [`longest_wait`], by what they show: what becomes of jobs, of sessions and of single packets, and Subscription
+/// Identifiers.
+pub fn all_scenarios() -> [&'static [Scenario<'static>]; 4] {
+    [
+        &jobs::PLAYS,
+        &sessions::PLAYS,
+        &packets::PLAYS,
+        &identifiers::PLAYS,
+    ]
 }

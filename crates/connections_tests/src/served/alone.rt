@@ -57,7 +57,7 @@ fn silence(rt: HostRuntime) {
         moments: &[0, 0, 90_000],
         ..Scenario::whole()
     };
-    let written = b"\x20\x0E\x00\x00\x0B\x24\x01\x25\x00\x27\x00\x01\x00\x00\x29\x00\xE0\x01\x8D";
+    let written = b"\x20\x0C\x00\x00\x09\x24\x01\x25\x00\x27\x00\x01\x00\x00\xE0\x01\x8D";
     serves(&rt, rt.alloc(), scenario, Served::Ended, written);
 }
 

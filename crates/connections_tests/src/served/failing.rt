@@ -18,8 +18,8 @@ const ONE_JOB: &str =
 /// What becomes of the job where the transport takes so many bytes and then fails.
 fn report_at(room: usize) -> Option<&'static str> {
     match room {
-        0..=15 => None,
-        16..=21 => Some(NO_JOB),
+        0..=13 => None,
+        14..=19 => Some(NO_JOB),
         _ => Some(ONE_JOB),
     }
 }
@@ -34,7 +34,7 @@ fn each_write_fails(rt: HostRuntime) {
             ..Scenario::whole()
         };
         let (served, transport) = serve_over(&rt, rt.alloc(), &mut supply, scenario);
-        let wanted = if room < 37 {
+        let wanted = if room < 35 {
             Served::Write
         } else {
             Served::Ended
@@ -53,15 +53,14 @@ fn third_read_fails(rt: HostRuntime) {
         reads: &[ReadTurn::AtMost(17), ReadTurn::AtMost(20), ReadTurn::Failed],
         ..Scenario::whole()
     };
-    serves(&rt, rt.alloc(), scenario, Served::Read, &ANSWERS[..22]);
+    serves(&rt, rt.alloc(), scenario, Served::Read, &ANSWERS[..20]);
 }
 
 /// A CONNECT, and a length that is malformed after it: the connection ends (1.5.5).
 const FAULTY: &[u8] = b"\x10\x0F\x00\x04MQTT\x05\x02\x00\x3C\x00\x00\x02w1\x82\xFF\xFF\xFF\xFF";
 
 /// What is written then: a CONNACK, and a DISCONNECT: Malformed Packet.
-const FAULT_TOLD: &[u8] =
-    b"\x20\x0E\x00\x00\x0B\x24\x01\x25\x00\x27\x00\x01\x00\x00\x29\x00\xE0\x01\x81";
+const FAULT_TOLD: &[u8] = b"\x20\x0C\x00\x00\x09\x24\x01\x25\x00\x27\x00\x01\x00\x00\xE0\x01\x81";
 
 /// This comes over a transport that takes nothing in so many writes, at these moments; how the connection ends, and what is written.
 fn is_deaf<R: Abort + Wait>(

@@ -113,11 +113,9 @@ fn connects() -> Scenario<'static> {
 }
 
 /// The CONNACK, and a DISCONNECT: Server shutting down, and Session taken over (3.14.2.1).
-const CLOSED: &[u8] =
-    b"\x20\x0E\x00\x00\x0B\x24\x01\x25\x00\x27\x00\x01\x00\x00\x29\x00\xE0\x01\x8B";
+const CLOSED: &[u8] = b"\x20\x0C\x00\x00\x09\x24\x01\x25\x00\x27\x00\x01\x00\x00\xE0\x01\x8B";
 
-const TAKEN_OVER: &[u8] =
-    b"\x20\x0E\x00\x00\x0B\x24\x01\x25\x00\x27\x00\x01\x00\x00\x29\x00\xE0\x01\x8E";
+const TAKEN_OVER: &[u8] = b"\x20\x0C\x00\x00\x09\x24\x01\x25\x00\x27\x00\x01\x00\x00\xE0\x01\x8E";
 
 #[test]
 fn close(rt: HostRuntime) {
@@ -210,7 +208,8 @@ const PUBLISHES: &[ReadTurn] = &[
 ];
 
 /// What is left of them: two that were handed out are given back.
-const LEFT: &str = "$share/g/job accepted 4 acknowledged 0 refused 0 held 0 queued 2 returned 2 discarded 0\n";
+const LEFT: &str =
+    "$share/g/job accepted 4 acknowledged 0 refused 0 held 0 queued 2 returned 2 discarded 0\n";
 
 /// A CONNECT of client `w1` with a Receive Maximum of 256, a SUBSCRIBE and a PINGREQ, which is never read.
 const MEMBER: &[u8] =
@@ -238,7 +237,7 @@ fn hold_up(
     goes_on_twice(rt, &mut member, &mut supply, 200, Round::Writing);
     let transport = ends(rt, member, &mut supply, 60_100, Served::Stalled);
     let jobs = ends(rt, publisher, &mut supply, 60_100, Served::Ended);
-    assert_eq!(rt; jobs.output().len(), 32);
+    assert_eq!(rt; jobs.output().len(), 30);
     reports(rt, alloc, &supply, Some(LEFT));
     supply.abandon();
     transport
@@ -248,7 +247,7 @@ fn hold_up(
 #[test]
 fn deaf_member(rt: HostRuntime) -> Result<(), Fail> {
     let mut writes = vec![in rt.alloc(); WriteTurn::Idle; 100]?;
-    writes[0] = WriteTurn::AtMost(16);
+    writes[0] = WriteTurn::AtMost(14);
     writes[1] = WriteTurn::AtMost(6);
     let scenario = Scenario {
         input: MEMBER,
@@ -266,6 +265,6 @@ fn deaf_member(rt: HostRuntime) -> Result<(), Fail> {
     let jobs = scripted(&rt, rt.alloc(), scenario);
     let member = hold_up(&rt, rt.alloc(), Noting::over(transport), jobs);
     assert_eq!(rt; (member.reads, member.most), (2, 2 * JOB_SIZE));
-    assert_written(&rt, member.inner.output(), &ANSWERS[..22]);
+    assert_written(&rt, member.inner.output(), &ANSWERS[..20]);
     Ok(())
 }

@@ -128,7 +128,8 @@ fn group_ledger(rt: HostRuntime) -> Result<(), Fail> {
         &Err(TakeError::Shut),
     );
     let report = line(rt.alloc(), &group)?;
-    let wanted = b"$share/g/job accepted 4 acknowledged 1 refused 0 held 1 queued 1 returned 1 discarded 0\n";
+    let wanted =
+        b"$share/g/job accepted 4 acknowledged 1 refused 0 held 1 queued 1 returned 1 discarded 0\n";
     assert_items(&rt, report.as_slice(), wanted.as_slice());
     Ok(())
 }
@@ -146,7 +147,8 @@ fn full_queue(rt: HostRuntime) -> Result<(), Fail> {
     assert_same(&rt, &take(&mut group, 31, Does::Keep), &Ok(None));
     assert_same(&rt, &offer(rt.alloc(), &mut group, 1, b"B"), &Some(0));
     let report = line(rt.alloc(), &group)?;
-    let wanted = b"$share/g/job accepted 2 acknowledged 0 refused 1 held 0 queued 1 returned 0 discarded 0\n";
+    let wanted =
+        b"$share/g/job accepted 2 acknowledged 0 refused 1 held 0 queued 1 returned 0 discarded 0\n";
     assert_items(&rt, report.as_slice(), wanted.as_slice());
     Ok(())
 }
@@ -161,7 +163,8 @@ fn discarded_message(rt: HostRuntime) -> Result<(), Fail> {
     assert_same(&rt, &take(&mut group, 8, Does::Keep), &Ok(None));
     assert_same(&rt, &take_back(&mut group, 8, Does::Keep), &Ok(None));
     let report = line(rt.alloc(), &group)?;
-    let wanted = b"$share/g/job accepted 1 acknowledged 0 refused 0 held 0 queued 0 returned 0 discarded 1\n";
+    let wanted =
+        b"$share/g/job accepted 1 acknowledged 0 refused 0 held 0 queued 0 returned 0 discarded 1\n";
     assert_items(&rt, report.as_slice(), wanted.as_slice());
     Ok(())
 }

@@ -21,6 +21,11 @@ const TAKES_63: &str = "101400044D5154540502003C05270000003F00027731";
 
 const TAKES_65_535: &str = "101400044D5154540502003C05270000FFFF00027731";
 
+/// Takes packets of 65,541 bytes, and of the 65,542 that the longest PUBLISH has.
+const TAKES_65_541: &str = "101400044D5154540502003C05270001000500027731";
+
+const TAKES_65_542: &str = "101400044D5154540502003C05270001000600027731";
+
 const AUTHENTICATES: &str = "101300044D5154540502003C041500016100027731";
 
 const OTHER_VERSION: &str = "1003000004";
@@ -122,7 +127,14 @@ fn terms_of_clients(rt: HostRuntime) -> Result<(), Fail> {
         ..plain
     };
     let asks = "101700044D5154540502003C08110000000521000200027731";
-    for (digits, wanted) in &[(PLAIN, plain), (TAKES_65_535, few), (asks, asked)] {
+    let rows = [
+        (PLAIN, plain),
+        (TAKES_65_535, few),
+        (TAKES_65_541, few),
+        (TAKES_65_542, plain),
+        (asks, asked),
+    ];
+    for (digits, wanted) in &rows {
         let asked = terms(rt.alloc(), digits)?.map(|(most, _)| most);
         assert_same_at(&rt, &asked, &Some(*wanted), digits);
     }
@@ -214,9 +226,8 @@ fn code_of(answer: &EntryAnswer) -> Option<ReasonCode> {
 
 // The Reason Code of the last entry of a SUBSCRIBE.
 fn code_of_last(subscribe: Subscribe, terms: &Terms) -> Option<ReasonCode> {
-    let has_subscription_identifier = subscribe.properties.subscription_identifier.is_some();
     let mut entries = subscribe.subscriptions.into_vec();
-    let answer = answer_to_entry(has_subscription_identifier, entries.pop()?, terms);
+    let answer = answer_to_entry(entries.pop()?, terms);
     code_of(&answer)
 }
 
@@ -247,7 +258,6 @@ fn entry(
 fn entries_of_a_subscribe(rt: HostRuntime) -> Result<(), Fail> {
     let unsuited = Some(ReasonCode::IMPLEMENTATION_SPECIFIC_ERROR);
     let invalid = Some(ReasonCode::TOPIC_FILTER_INVALID);
-    let identified = Some(ReasonCode::SUBSCRIPTION_IDENTIFIERS_NOT_SUPPORTED);
     let rows = [
         ("8212000100000C2473686172652F672F6A6F6201", true, None),
         ("8212000100000C2473686172652F672F6A6F6201", false, unsuited),
@@ -256,7 +266,8 @@ fn entries_of_a_subscribe(rt: HostRuntime) -> Result<(), Fail> {
         ("820700010000016101", true, unsuited),
         ("82080001000002612301", true, invalid),
         ("820E00010000082473686172652F6701", true, invalid),
-        ("82090001020B0500016101", true, identified),
+        ("82090001020B0500016101", true, unsuited),
+        ("82140001020B05000C2473686172652F672F6A6F6201", true, None),
     ];
     for (digits, takes_all, wanted) in &rows {
         assert_same_at(&rt, &entry(rt.alloc(), digits, *takes_all)?, wanted, digits);

@@ -19,10 +19,10 @@ fn sent(alloc: Global, packet: Packet) -> Result<String, Fail> {
 #[test]
 fn connacks(rt: HostRuntime) -> Result<(), Fail> {
     let present = sent(rt.alloc(), accepting(true, None))?;
-    assert_text(&rt, present.as_str(), "200e01000b2401250027000100002900");
+    assert_text(&rt, present.as_str(), "200c010009240125002700010000");
     let assigned = Text::parse(Bytes::from_static(b"auto-00000001"));
     let new = sent(rt.alloc(), accepting(false, assigned))?;
-    let wanted = "201e00001b12000d6175746f2d30303030303030312401250027000100002900";
+    let wanted = "201c00001912000d6175746f2d3030303030303031240125002700010000";
     assert_text(&rt, new.as_str(), wanted);
     let refused = sent(rt.alloc(), refusing(ConnectRefusal::ServerBusy))?;
     assert_text(&rt, refused.as_str(), "2003008900");
