@@ -45,7 +45,7 @@ pub data Deed (T : Type 0) : Type 0 where
   Waited : (at_most now : ℕ) → Deed T
 
 -- what a worker has: the number of the connection in its first cell, from which on those in the others have theirs; what it asks, its connections, those that came, in order, how
--- connections ended, and the calls of its poller by which it closed transports and waited, in order; `None` where its poller does not tell them. Its moment is the
+-- connections ended, and the calls of its poller by which it had transports watched, closed them and waited, in order; `None` where its poller does not tell them. Its moment is the
 -- latest that a wait told, and 0 before the first
 pub record RunState (T : Type 0) : Type 0 where
   pub first : ℕ
