@@ -1,7 +1,7 @@
 -- What a call adds to the events of one group.
 use Rattle.std.proofs.Common.{◌≡◌, ℕ, ◌⊎◌, true, false, Option, Some, None, Result, Ok, Err, refl, ap, ◌∙◌, inl, inr, ⊎_elim}
 use Rattle.dispatch_core.specs.declared.event.Event.{Event}
-use Rattle.dispatch_core.specs.declared.event.Event.TheVariants.{Accept, First, Ack, Refuse, Back, Again, Close}
+use Rattle.dispatch_core.specs.declared.event.Event.TheVariants.{Accept, First, Ack, Refuse, Discard, Back, Again, Close}
 use Rattle.dispatch_core.specs.GroupState.{GroupState}
 use Rattle.dispatch_core.specs.Step.{Step}
 use Rattle.group_jobs.specs.declared.fate.Fate.{Fate}
@@ -42,6 +42,7 @@ handed_again old new place (Err error) does = inl does.1
 ended : (old new : Group) (envelope : Held) (how : Fate) → Settles old envelope how new → GoesOn old new
 ended old new envelope fate.Acknowledged settles = record { event = Ack envelope.place (job_of envelope.stamp); adds = settles.event; once = λ e. absurd (cc) }
 ended old new envelope fate.Refused settles = record { event = Refuse envelope.place (job_of envelope.stamp); adds = settles.event; once = λ e. absurd (cc) }
+ended old new envelope fate.Discarded settles = record { event = Discard envelope.place (job_of envelope.stamp); adds = settles.event; once = λ e. absurd (cc) }
 
 pub settled : (old new : Group) (place : ℕ) (envelope : Held) (how : Fate) → IsSettled old place envelope how new → Moves old new
 settled old new place envelope how does =
@@ -66,6 +67,7 @@ stays_closed old new (Accept port) step was = step.made.2 ∙ was
 stays_closed old new (First place job) step was = step.made.2 ∙ was
 stays_closed old new (Ack place job) step was = step.made.2 ∙ was
 stays_closed old new (Refuse place job) step was = step.made.2 ∙ was
+stays_closed old new (Discard place job) step was = step.made.2 ∙ was
 stays_closed old new (Back place job) step was = step.made.2 ∙ was
 stays_closed old new (Again place job) step was = step.made.2 ∙ was
 stays_closed old new Close step was = step.made.2
@@ -83,6 +85,7 @@ ends old new (Accept port) adds once was = let is_open = adds.step.may.not_close
 ends old new (First place job) adds once was = let is_open = adds.step.may.not_closed tt in cc
 ends old new (Ack place job) adds once was = tt
 ends old new (Refuse place job) adds once was = tt
+ends old new (Discard place job) adds once was = tt
 ends old new (Back place job) adds once was = tt
 ends old new (Again place job) adds once was = let is_open = adds.step.may.not_closed tt in cc
 ends old new Close adds once was = let is_open = once refl in cc

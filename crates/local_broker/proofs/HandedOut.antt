@@ -64,6 +64,7 @@ handed_again (Err refusal) old new place does = same_group old new does.1
 settled_as : (how : Fate) (old new : Group) (envelope : Held) → Settles old envelope how new → Hands [] old new
 settled_as fate.Acknowledged old new envelope settles = one_event None old new _ settles.event refl
 settled_as fate.Refused old new envelope settles = one_event None old new _ settles.event refl
+settled_as fate.Discarded old new envelope settles = one_event None old new _ settles.event refl
 
 settled : (how : Fate) (old new : Group) (place : ℕ) (envelope : Held) → IsSettled old place envelope how new → Hands [] old new
 settled how old new place envelope does =

@@ -3,7 +3,7 @@ use Rattle.std.proofs.Common.{◌≡◌, ◌≢◌, ℕ, true, false, length, Op
 use Rattle.std.proofs.lemmas.Option.{slice_get_past, same_Some}
 use Rattle.dispatch_core.specs.declared.event.Job.{Job}
 use Rattle.dispatch_core.specs.declared.event.Event.{Event}
-use Rattle.dispatch_core.specs.declared.event.Event.TheVariants.{Accept, First, Ack, Refuse, Back, Again, Close}
+use Rattle.dispatch_core.specs.declared.event.Event.TheVariants.{Accept, First, Ack, Refuse, Discard, Back, Again, Close}
 use Rattle.dispatch_core.specs.declared.event.Spot.{Spot}
 use Rattle.dispatch_core.specs.declared.event.Spot.TheVariants as spot
 use Rattle.dispatch_core.specs.GroupState.{GroupState, spot_of, row_of}
@@ -65,6 +65,8 @@ settles old new other fate.Acknowledged place envelope does out differs =
     kept old new place envelope (Ack other.place (stamped other.stamp)) out does.event (λ e. differs (same_Some (stamped other.stamp) (stamped envelope.stamp) e))
 settles old new other fate.Refused place envelope does out differs =
     kept old new place envelope (Refuse other.place (stamped other.stamp)) out does.event (λ e. differs (same_Some (stamped other.stamp) (stamped envelope.stamp) e))
+settles old new other fate.Discarded place envelope does out differs =
+    kept old new place envelope (Discard other.place (stamped other.stamp)) out does.event (λ e. differs (same_Some (stamped other.stamp) (stamped envelope.stamp) e))
 
 pub settled : (old new : Group) (at : ℕ) (other : Held) (how : Fate) (place : ℕ) (envelope : Held) → IsSettled old at other how new → other.stamp ≢ envelope.stamp → IsOutAt old place envelope → IsOutAt new place envelope
 settled old new at other how place envelope does differs out =

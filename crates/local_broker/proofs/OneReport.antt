@@ -9,7 +9,7 @@ use Rattle.dispatch_core.specs.JobRuns.{count_of}
 use Rattle.dispatch_core.specs.Mentions.{AreSame}
 use Rattle.dispatch_core.proofs.ExactLaws.{same_next}
 use Rattle.dispatch_core.proofs.JobLists.{count_of-cons}
-use Rattle.group_jobs.specs.declared.fate.Fate.TheVariants.{Acknowledged, Refused}
+use Rattle.group_jobs.specs.declared.fate.Fate.TheVariants.{Acknowledged, Refused, Discarded}
 use Rattle.group_jobs.specs.declared.report.Report.{Report}
 use Rattle.group_jobs.specs.Reports.{report_line, labelled}
 use Rattle.group_jobs.specs.Settled.{settled_as}
@@ -45,9 +45,11 @@ one_line one other share report report' alike a b =
     (λ port less. (let small : port < 64 = (let many = a.ports in omega arith) in a.accepted port small ∙ accepted one.state other.state alike.state port ∙ sym (b.accepted port small))) in
     let acknowledged = listed one.state other.state (times_settled Acknowledged) (settled_as Acknowledged report.settled) (settled_as Acknowledged report'.settled) alike.state (a.settled Acknowledged) (b.settled Acknowledged) in
     let refused = listed one.state other.state (times_settled Refused) (settled_as Refused report.settled) (settled_as Refused report'.settled) alike.state (a.settled Refused) (b.settled Refused) in
+    let discarded = listed one.state other.state (times_settled Discarded) (settled_as Discarded report.settled) (settled_as Discarded report'.settled) alike.state (a.settled Discarded) (b.settled Discarded) in
     let held = listed one.state other.state times_out report.held.items report'.held.items alike.state a.held b.held in
     let queued : length report.queued.items ≡ length report'.queued.items = ap length (a.queue ∙ ap jobs_in alike.queue ∙ sym b.queue) in
     let returned : length report.returned.items ≡ length report'.returned.items = ap length (a.back ∙ ap jobs_in alike.returned ∙ sym b.back) in
     λ i. share.text ++ labelled (codes " accepted ") (sum (accepts i)) ++ labelled (codes " acknowledged ") (acknowledged i)
     ++ labelled (codes " refused ") (refused i) ++ labelled (codes " held ") (held i)
-    ++ labelled (codes " queued ") (queued i) ++ labelled (codes " returned ") (returned i) ++ 10 ∷ []
+    ++ labelled (codes " queued ") (queued i) ++ labelled (codes " returned ") (returned i)
+    ++ labelled (codes " discarded ") (discarded i) ++ 10 ∷ []

@@ -5,7 +5,7 @@ use Rattle.std.specs.List.{AllByRecursion, cons_option}
 use Rattle.std.proofs.lemmas.Bool.{cases_eq}
 use Rattle.std.proofs.lemmas.Option.{slice_get_within, slice_get-get_or, same_Some}
 use Rattle.dispatch_core.specs.declared.event.Event.{Event}
-use Rattle.dispatch_core.specs.declared.event.Event.TheVariants.{Accept, First, Ack, Refuse, Back, Again, Close}
+use Rattle.dispatch_core.specs.declared.event.Event.TheVariants.{Accept, First, Ack, Refuse, Discard, Back, Again, Close}
 use Rattle.dispatch_core.proofs.Spots.{slice_get-set_same, slice_get-set_other}
 use Rattle.group_jobs.specs.declared.fate.Fate.{Fate}
 use Rattle.group_jobs.specs.declared.fate.Fate.TheVariants as fate
@@ -66,6 +66,7 @@ is_handed_again (Err error) port old new place does = same_group (AcceptsThrough
 settled_as : (how : Fate) (port : ℕ) (old new : Group) (envelope : Held) → Settles old envelope how new → Grows (AcceptsThrough port) old new
 settled_as fate.Acknowledged port old new envelope settles = one_event (AcceptsThrough port) old new _ settles.event tt
 settled_as fate.Refused port old new envelope settles = one_event (AcceptsThrough port) old new _ settles.event tt
+settled_as fate.Discarded port old new envelope settles = one_event (AcceptsThrough port) old new _ settles.event tt
 
 is_settled : (how : Fate) (port : ℕ) (old new : Group) (place : ℕ) (envelope : Held) → IsSettled old place envelope how new → Grows (AcceptsThrough port) old new
 is_settled how port old new place envelope does =
@@ -198,6 +199,7 @@ ends_one (Accept port) ends = absurd ends
 ends_one (First member job) ends = tt
 ends_one (Ack member job) ends = tt
 ends_one (Refuse member job) ends = tt
+ends_one (Discard member job) ends = tt
 ends_one (Back member job) ends = tt
 ends_one (Again member job) ends = tt
 ends_one Close ends = tt

@@ -6,7 +6,7 @@ use Rattle.dispatch_core.specs.declared.event.Event.{Event}
 use Rattle.dispatch_core.specs.declared.event.Event.TheVariants.{Accept, First, Again, Close}
 use Rattle.dispatch_core.specs.declared.event.Job.{Job}
 use Rattle.dispatch_core.specs.declared.event.Spot.{Spot}
-use Rattle.dispatch_core.specs.declared.event.Spot.TheVariants.{Queued, Held, Acked, Refused, Returned}
+use Rattle.dispatch_core.specs.declared.event.Spot.TheVariants.{Queued, Held, Acked, Refused, Discarded, Returned}
 use Rattle.dispatch_core.specs.GroupState.{spot_of, row_of}
 use Rattle.dispatch_core.specs.History.{IsRun}
 use Rattle.dispatch_core.specs.JobRuns.{count_of}
@@ -143,6 +143,11 @@ settles fate.Refused old new envelope does serves =
     let adds = does.event in
     grows old new _ serves adds
     (keeps_list old new (job_of envelope.stamp) (Refused envelope.place) serves adds.step.made.0 does.returned (ap times_returned adds.step.may.ready) refl)
+    (λ member job is. absurd (cc))
+settles fate.Discarded old new envelope does serves =
+    let adds = does.event in
+    grows old new _ serves adds
+    (keeps_list old new (job_of envelope.stamp) (Discarded envelope.place) serves adds.step.made.0 does.returned (ap times_returned adds.step.may.ready) refl)
     (λ member job is. absurd (cc))
 
 pub settled : (how : Fate) (old new : Group) (place : ℕ) (envelope : Envelope) → IsSettled old place envelope how new → ServesReturnedFirst old → ServesReturnedFirst new

@@ -47,6 +47,7 @@ handed_out_again (Err error) old new place does = same_group old new does.1
 ended : (how : Fate) (old new : Group) (envelope : Held) → Settles old envelope how new → Marked old new
 ended fate.Acknowledged old new envelope settles = settles.event.step.made.2
 ended fate.Refused old new envelope settles = settles.event.step.made.2
+ended fate.Discarded old new envelope settles = settles.event.step.made.2
 
 pub settled : (old new : Group) (place : ℕ) (envelope : Held) (how : Fate) → IsSettled old place envelope how new → new.state.closed ≡ old.state.closed
 settled old new place envelope how does =

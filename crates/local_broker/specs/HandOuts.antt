@@ -1,7 +1,7 @@
 -- What places are handed: as the calls of connections have it, and as the events of the groups do.
 use Rattle.std.specs.Prelude.{ℕ, ◌==◌, if◌then◌else◌, List, filter_map, Option, Some, None}
 use Rattle.dispatch_core.specs.declared.event.Event.{Event}
-use Rattle.dispatch_core.specs.declared.event.Event.TheVariants.{Accept, First, Ack, Refuse, Back, Again, Close}
+use Rattle.dispatch_core.specs.declared.event.Event.TheVariants.{Accept, First, Ack, Refuse, Discard, Back, Again, Close}
 use Rattle.dispatch_core.specs.declared.event.Job.{Job}
 use Rattle.group_jobs.specs.Stamps.{Held, job_of}
 use Rattle.conn_laws.specs.Calls.{hand_out_of}
@@ -26,6 +26,7 @@ handed_in (Accept port) = None
 handed_in (First member job) = Some (member, job)
 handed_in (Ack member job) = None
 handed_in (Refuse member job) = None
+handed_in (Discard member job) = None
 handed_in (Back member job) = None
 handed_in (Again member job) = Some (member, job)
 handed_in Close = None

@@ -42,6 +42,7 @@ EndsHandOut (event.Accept port) = ⊥
 EndsHandOut (event.First member job) = ⊥
 EndsHandOut (event.Ack member job) = Unit {0}
 EndsHandOut (event.Refuse member job) = Unit {0}
+EndsHandOut (event.Discard member job) = Unit {0}
 EndsHandOut (event.Back member job) = Unit {0}
 EndsHandOut (event.Again member job) = ⊥
 EndsHandOut event.Close = ⊥

@@ -2,7 +2,7 @@
 use Rattle.std.specs.Prelude.{◌≡◌, ℕ, List, ◌++◌, Some, slice_get, ⊤}
 use Rattle.std.specs.List.{AllByRecursion}
 use Rattle.dispatch_core.specs.declared.event.Event.{Event}
-use Rattle.dispatch_core.specs.declared.event.Event.TheVariants.{Accept, First, Ack, Refuse, Back, Again, Close}
+use Rattle.dispatch_core.specs.declared.event.Event.TheVariants.{Accept, First, Ack, Refuse, Discard, Back, Again, Close}
 use Rattle.local_group.specs.Groups.{Group}
 use Rattle.local_broker.specs.Broker.{Broker}
 
@@ -12,6 +12,7 @@ AcceptsThrough port (Accept its) = its ≡ port
 AcceptsThrough port (First member job) = ⊤
 AcceptsThrough port (Ack member job) = ⊤
 AcceptsThrough port (Refuse member job) = ⊤
+AcceptsThrough port (Discard member job) = ⊤
 AcceptsThrough port (Back member job) = ⊤
 AcceptsThrough port (Again member job) = ⊤
 AcceptsThrough port Close = ⊤
@@ -22,6 +23,7 @@ AcceptsNothing (Accept port) = ⊥
 AcceptsNothing (First member job) = ⊤
 AcceptsNothing (Ack member job) = ⊤
 AcceptsNothing (Refuse member job) = ⊤
+AcceptsNothing (Discard member job) = ⊤
 AcceptsNothing (Back member job) = ⊤
 AcceptsNothing (Again member job) = ⊤
 AcceptsNothing Close = ⊤
