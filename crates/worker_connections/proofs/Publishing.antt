@@ -66,7 +66,7 @@ refused_at false identifier other code is = absurd (cc is)
 
 refused_by : (closing : Option ℕ) (identifier other code : ℕ) (publish : Publish) → identified_answer closing identifier publish ≡ answers.Refuse other code → 0x80 ≤ code
 refused_by (Some closing) identifier other code publish is = absurd (cc is)
-refused_by None identifier other code publish is = refused_at (is_some publish.properties.message_expiry_interval) identifier other code is
+refused_by None identifier other code publish is = refused_at (is_some publish.message_expiry_interval) identifier other code is
 
 refused_with : (delivery : Delivery) (other code : ℕ) (publish : Publish) → delivery_answer delivery publish ≡ answers.Refuse other code → 0x80 ≤ code
 refused_with (AtLeastOnce identifier) other code publish is = refused_by (closing_code publish) identifier other code publish is
