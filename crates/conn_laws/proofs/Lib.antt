@@ -27,3 +27,4 @@ pub mod Lengths
 pub mod Forwarding
 pub mod Replies
 pub mod Sending
+pub mod Subscriptions

@@ -8,3 +8,4 @@ pub mod ReturnedFirst
 pub mod Marks
 pub mod Transcripts
 pub mod Sizes
+pub mod Subscriptions

@@ -14,6 +14,7 @@ ghost use Rattle.conn_laws.specs.Behind.{IsLast, KeepsOrEnds, IsAllHandedOut};
 ghost use Rattle.conn_laws.specs.Publishers.{CallsFrom};
 ghost use Rattle.conn_laws.specs.ReturnedFirst.{CallsReturnedFirst};
 ghost use Rattle.conn_laws.specs.Quotas.{IsWithinLimit, IsWithinQuota};
+ghost use Rattle.conn_laws.specs.Subscriptions.{Identifies, InSession};
 ghost use Rattle.conn_laws.specs.Transcripts.{IsNotEnding, Transcribes};
 ghost use Rattle.conn_engine.specs.Step.{Steps, FailsToStep};
 
@@ -54,6 +55,15 @@ pub fn quota_law<P: HoldingPlace, S: Supply<P>>()
     ensures limited { (number now limit : ℕ) (phase phase' : ConnPhase P) (input : Input) (packets : List Packet) (next : Then) (old new : S) →
         Steps S.call P.slot_of old number phase now input packets next phase' new →
         IsWithinLimit limit phase → IsWithinLimit limit phase' }
+{}
+
+/// **A session's Subscription Identifier is that of its last subscription** (section 3.8.2.1.2): a SUBSCRIBE of which an entry is granted by the SUBACK
+/// sets it, or takes it away where it has none; and no other step of a connection that keeps its session changes it. Under it goes out what the step hands
+/// out (`hands` of `transcript_law`).
+pub fn identifier_law<P: HoldingPlace, S: Supply<P>>()
+    ensures { (number now : ℕ) (connected : ConnectedClient P) (phase' : ConnPhase P) (input : Input) (packets : List Packet) (next : Then) (old new : S) →
+        Steps S.call P.slot_of old number (phases.Connected connected) now input packets next phase' new →
+        InSession (Identifies input packets connected.session.subscription) phase' }
 {}
 
 /// **A step is a list of calls**, and so is one that wants memory (`failed`): what holds of every list of calls holds after every
