@@ -6,6 +6,7 @@ use Rattle.dispatch_core.specs.GroupState.{GroupState}
 use Rattle.dispatch_core.specs.Lawful.{IsLawful}
 use Rattle.group_jobs.specs.Endings.{AreOrderly, EndsIn}
 use Rattle.group_jobs.specs.Stamps.{Held}
+use Rattle.group_jobs.specs.declared.fate.Fate.TheVariants.{Refused, Discarded}
 use Rattle.group_jobs.specs.declared.report.Report.{Report}
 use Rattle.group_jobs.specs.Reports.{fates_of, times_accepted}
 use Rattle.group_jobs.specs.Balance.{Account, AddsUp}
@@ -16,9 +17,9 @@ use Rattle.broker_groups.specs.Endings.{AreEnded, joined, port_slot, place_slot,
 use Rattle.broker_groups.specs.Sorting.{at_slot}
 use Rattle.session_desk.specs.Calls.{Call}
 use Rattle.shared_supply.specs.Endings.{IsEnded}
-use Rattle.final_report.specs.Promises.{IsFirstHandedOnce, KeepsOrder, RefusesForGood, GivesOneFate, TellsWhatHappened, EndsLawfully}
+use Rattle.final_report.specs.Promises.{IsFirstHandedOnce, KeepsOrder, RefusesForGood, DiscardsForGood, GivesOneFate, TellsWhatHappened, EndsLawfully}
 use Rattle.final_report.specs.Brokers.{OfEachReport, KeptItsPromisesBehind}
-use Rattle.final_report.proofs.Fates.{first_handed_once, tells, refuses_for_good, gives_one_fate}
+use Rattle.final_report.proofs.Fates.{first_handed_once, tells, ends_at_its_member, gives_one_fate}
 use Rattle.final_report.proofs.Orders.{keeps_order}
 use Rattle.final_report.proofs.Held.{none_lacks}
 
@@ -50,8 +51,14 @@ module _ {W : Type 0} (group : ℕ → GroupId) (ports : List (List PortState)) 
     pub ended_refused_for_good : OfEachReport RefusesForGood ports places held answers
     ended_refused_for_good = λ slot report at.
         let r = ended.each slot (Ok report) at in
-        refuses_for_good (group slot) (at_slot port_slot slot (joined ports)) (at_slot place_slot slot places) (at_slot held_slot slot held) report r
-        (one_fate (map account_of (at_slot place_slot slot places)) report r.adds)
+        ends_at_its_member (group slot) (at_slot port_slot slot (joined ports)) (at_slot place_slot slot places) (at_slot held_slot slot held) report r
+        (one_fate (map account_of (at_slot place_slot slot places)) report r.adds) Refused
+
+    pub ended_discarded_for_good : OfEachReport DiscardsForGood ports places held answers
+    ended_discarded_for_good = λ slot report at.
+        let r = ended.each slot (Ok report) at in
+        ends_at_its_member (group slot) (at_slot port_slot slot (joined ports)) (at_slot place_slot slot places) (at_slot held_slot slot held) report r
+        (one_fate (map account_of (at_slot place_slot slot places)) report r.adds) Discarded
 
     pub ended_one_fate : OfEachReport GivesOneFate ports places held answers
     ended_one_fate = λ slot report at.
@@ -76,6 +83,7 @@ kept group calls ports answers strangers one_fate lawful_end (places, held, e) =
     first_once = ended_first_once group ports places held answers e.ended one_fate;
     in_order = ended_in_order group ports places held answers e.ended;
     refused_for_good = ended_refused_for_good group ports places held answers e.ended one_fate;
+    discarded_for_good = ended_discarded_for_good group ports places held answers e.ended one_fate;
     one_fate = ended_one_fate group ports places held answers e.ended one_fate;
     what_happened = ended_what_happened group ports places held answers e.ended one_fate;
     lawful = ended_lawful group ports places held answers e.ended lawful_end;

@@ -4,10 +4,9 @@ use Rattle.std.specs.Prelude.{map, sum_by, slice_index_or}
 use Rattle.dispatch_core.specs.declared.event.Job.{Job}
 use Rattle.dispatch_core.specs.JobRuns.{count_of}
 use Rattle.group_jobs.specs.declared.fate.Fate.{Fate}
-use Rattle.group_jobs.specs.declared.fate.Fate.TheVariants.{Acknowledged, Refused}
 use Rattle.group_jobs.specs.declared.report.Report.{Report}
 use Rattle.group_jobs.specs.Reports.{times_accepted}
-use Rattle.group_jobs.specs.Settled.{settled_as}
+use Rattle.group_jobs.specs.Settled.{fates, settled_as}
 use Rattle.group_jobs.specs.Stamps.{Held}
 use Rattle.group_jobs.specs.Balance.{Account, Balance}
 use Rattle.group_queue.specs.declared.posted.Posted.{Posted}
@@ -82,5 +81,5 @@ module _ (group : GroupId) (ports : List PortState) (places : List PlaceState) (
 
   -- each place's hand-outs ended once, or the message is out there
   pub balanced : (place : PlaceState) (job : Job) → Contains places place
-      → times_handed job place ≡ times_settled_at Acknowledged job place + times_settled_at Refused job place + times_given_back job place + times_out_at job place
+      → times_handed job place ≡ sum_by (λ fate. times_settled_at fate job place) fates + times_given_back job place + times_out_at job place
   balanced place job there = omega (arith, All-mapped Balance account_of places place r.adds.balanced there job)

@@ -12,7 +12,7 @@ use Rattle.broker_groups.specs.Endings.{joined, port_slot, place_slot, held_slot
 use Rattle.broker_groups.specs.Sorting.{at_slot}
 use Rattle.session_desk.specs.Calls.{Call}
 use Rattle.shared_supply.specs.Endings.{IsEndedWith}
-use Rattle.final_report.specs.Promises.{IsFirstHandedOnce, KeepsOrder, RefusesForGood, GivesOneFate, TellsWhatHappened, EndsLawfully}
+use Rattle.final_report.specs.Promises.{IsFirstHandedOnce, KeepsOrder, RefusesForGood, DiscardsForGood, GivesOneFate, TellsWhatHappened, EndsLawfully}
 
 -- so it is of each group whose report is given, with the ports and places that are of its slot, and the messages that are out there
 abbrev pub OfEachReport : {W : Type 0} → (List PortState → List PlaceState → List Held → Report → Type 0)
@@ -39,6 +39,7 @@ pub record KeptItsPromises {W : Type 0} (group : ℕ → GroupId) (calls : List 
   pub first_once : OfEachReport IsFirstHandedOnce ports places held answers
   pub in_order : OfEachReport KeepsOrder ports places held answers
   pub refused_for_good : OfEachReport RefusesForGood ports places held answers
+  pub discarded_for_good : OfEachReport DiscardsForGood ports places held answers
   pub one_fate : OfEachReport GivesOneFate ports places held answers
   pub what_happened : OfEachReport TellsWhatHappened ports places held answers
   pub lawful : OfEachReport EndsLawfully ports places held answers

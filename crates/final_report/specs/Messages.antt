@@ -27,7 +27,7 @@ times_handed job place = times_first_handed job place + times_handed_again job p
 abbrev pub times_given_back : Job → PlaceState → ℕ
 times_given_back job place = count_of job (jobs_in place.given)
 
--- and settled it by this fate, which is for good
+-- and how often it was settled there by this fate, which is for good
 abbrev pub times_settled_at : Fate → Job → PlaceState → ℕ
 times_settled_at fate job place = (account_of place).settled fate job
 

@@ -5,7 +5,7 @@ use Rattle.dispatch_core.specs.GroupState.{GroupState}
 use Rattle.dispatch_core.specs.JobRuns.{count_of}
 use Rattle.dispatch_core.specs.Lawful.{RisesByPort, IsLawful}
 use Rattle.group_jobs.specs.declared.fate.Fate.{Fate}
-use Rattle.group_jobs.specs.declared.fate.Fate.TheVariants.{Acknowledged, Refused}
+use Rattle.group_jobs.specs.declared.fate.Fate.TheVariants.{Refused, Discarded}
 use Rattle.group_jobs.specs.declared.report.Report.{Report}
 use Rattle.group_jobs.specs.Endings.{EndsIn}
 use Rattle.group_jobs.specs.Reports.{fates_of, times_accepted}
@@ -49,23 +49,31 @@ pub record KeepsOrder (ports : List PortState) (places : List PlaceState) (held 
   pub numbered : All (λ place. All (IsSent ports) place.firsts) places
   pub rises : All (λ place. RisesByPort (jobs_in place.firsts)) places
 
--- a message that one member refused went to nobody else
-pub record WentToNobodyElse (places : List PlaceState) (report : Report) (job : Job) (refuser : PlaceState) : Type 0 where
-  -- it was refused once; and each other time that this member was handed it, it gave it back
-  pub once : times_settled_at Refused job refuser ≡ 1
-  pub this_member : times_handed job refuser ≡ times_given_back job refuser + 1
+-- a message that was settled at one member by this fate went to nobody else
+pub record WentToNobodyElse (how : Fate) (places : List PlaceState) (report : Report) (job : Job) (settler : PlaceState) : Type 0 where
+  -- it was settled so once; and each other time that this member was handed it, it gave it back
+  pub once : times_settled_at how job settler ≡ 1
+  pub this_member : times_handed job settler ≡ times_given_back job settler + 1
   -- each other member neither settled it nor has it, and gave it back as often as it was handed it
-  pub others : (other : PlaceState) → Contains places other → other.number ≢ refuser.number
+  pub others : (other : PlaceState) → Contains places other → other.number ≢ settler.number
       → ((fate : Fate) → times_settled_at fate job other ≡ 0) × (times_out_at job other ≡ 0) × (times_handed job other ≡ times_given_back job other)
-  -- it waits for nobody: whatever was given back was handed out again, up to the hand-out that was refused, and it is the report's to be refused, once, and nothing else
+  -- it waits for nobody: whatever was given back was handed out again, up to the hand-out that was settled, and it is the report's to have that fate, once, and nothing else
   pub none_waits : (count_of job report.queued.items ≡ 0) × (count_of job report.returned.items ≡ 0) × (count_of job report.held.items ≡ 0)
   pub again : sum_by (times_handed_again job) places ≡ sum_by (times_given_back job) places
-  pub fate : (count_of job (settled_as Refused report.settled) ≡ 1) × (count_of job (settled_as Acknowledged report.settled) ≡ 0)
+  pub fate : (count_of job (settled_as how report.settled) ≡ 1) × ((other : Fate) → other ≢ how → count_of job (settled_as other report.settled) ≡ 0)
+
+-- so it is of each message that was settled by this fate
+abbrev pub EndsAtItsMember : Fate → List PortState → List PlaceState → List Held → Report → Type 0
+EndsAtItsMember how ports places held report =
+    (settler : PlaceState) (job : Job) → Contains places settler → 1 ≤ times_settled_at how job settler → WentToNobodyElse how places report job settler
 
 -- **A refused message goes to nobody else.**
 abbrev pub RefusesForGood : List PortState → List PlaceState → List Held → Report → Type 0
-RefusesForGood ports places held report =
-    (refuser : PlaceState) (job : Job) → Contains places refuser → 1 ≤ times_settled_at Refused job refuser → WentToNobodyElse places report job refuser
+RefusesForGood = EndsAtItsMember Refused
+
+-- **Nor does a discarded one.**
+abbrev pub DiscardsForGood : List PortState → List PlaceState → List Held → Report → Type 0
+DiscardsForGood = EndsAtItsMember Discarded
 
 -- **The final report gives each accepted message exactly one fate**, and nothing else any.
 pub record GivesOneFate (ports : List PortState) (places : List PlaceState) (held : List Held) (report : Report) : Type 0 where
@@ -74,7 +82,7 @@ pub record GivesOneFate (ports : List PortState) (places : List PlaceState) (hel
   -- no two accepted messages have one port and number
   pub apart : (job : Job) → times_accepted_by ports job ≤ 1
 
--- **The report is what happened**: it counts what was accepted; a message is acknowledged or refused there as often as the members settled it so, held as often as it is among those
+-- **The report is what happened**: it counts what was accepted; a message is acknowledged, refused or discarded there as often as it was settled so at the members, held as often as it is among those
 -- that are out, and returned as often as it was given back and not handed out again.
 pub record TellsWhatHappened (ports : List PortState) (places : List PlaceState) (held : List Held) (report : Report) : Type 0 where
   pub accepted : (job : Job) → times_accepted report.accepted.items job ≡ times_accepted_by ports job

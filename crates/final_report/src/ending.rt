@@ -9,7 +9,7 @@ ghost use Rattle.group_queue.specs.Places.{PlaceState};
 ghost use Rattle.shared_supply.specs.Endings.{IsAllBehind, IsLeft};
 ghost use Rattle.broker_groups.specs.Endings.{AreEnded, held_slot};
 ghost use Rattle.broker_groups.specs.Sorting.{at_slot};
-ghost use Rattle.final_report.specs.Promises.{IsFirstHandedOnce, KeepsOrder, RefusesForGood, GivesOneFate, TellsWhatHappened, EndsLawfully};
+ghost use Rattle.final_report.specs.Promises.{IsFirstHandedOnce, KeepsOrder, RefusesForGood, DiscardsForGood, GivesOneFate, TellsWhatHappened, EndsLawfully};
 ghost use Rattle.final_report.specs.Brokers.{KeptItsPromisesBehind, NoneLacksAMessage, OfEachReport};
 
 use broker_groups::{Broker, BrokerGroups, BrokerPlace, Ended, Ports, Unended};
@@ -29,6 +29,7 @@ use std::sync::Wait;
 /// - `first_once`: each message that was accepted was first handed to at most one member, once;
 /// - `in_order`: each member's first hand-outs from a publisher keep that publisher's order;
 /// - `refused_for_good`: a refused message went to nobody else;
+/// - `discarded_for_good`: nor did a discarded one;
 /// - `one_fate`: the report gives each accepted message exactly one fate, and nothing else any;
 /// - `what_happened`: that fate is the one that it had;
 /// - `lawful`: the report and the first hand-outs are a lawful state of a group.
@@ -57,6 +58,7 @@ where
     ensures first_once { IfOk result (λ ended. OfEachReport IsFirstHandedOnce ports.items places.items held.items ended.answers.items) }
     ensures in_order { IfOk result (λ ended. OfEachReport KeepsOrder ports.items places.items held.items ended.answers.items) }
     ensures refused_for_good { IfOk result (λ ended. OfEachReport RefusesForGood ports.items places.items held.items ended.answers.items) }
+    ensures discarded_for_good { IfOk result (λ ended. OfEachReport DiscardsForGood ports.items places.items held.items ended.answers.items) }
     ensures one_fate { IfOk result (λ ended. OfEachReport GivesOneFate ports.items places.items held.items ended.answers.items) }
     ensures what_happened { IfOk result (λ ended. OfEachReport TellsWhatHappened ports.items places.items held.items ended.answers.items) }
     ensures lawful { IfOk result (λ ended. OfEachReport EndsLawfully ports.items places.items held.items ended.answers.items) }

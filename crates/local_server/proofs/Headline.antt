@@ -7,7 +7,7 @@ use Rattle.dispatch_core.specs.GroupState.{GroupState, firsts_of}
 use Rattle.dispatch_core.specs.History.{IsRun}
 use Rattle.dispatch_core.specs.Lawful.{IsLawful, RisesByPort, StandsOnce}
 use Rattle.dispatch_core.specs.Told.{firsts_in}
-use Rattle.dispatch_core.proofs.RunLaws.{refused_run, closed_run}
+use Rattle.dispatch_core.proofs.RunLaws.{refused_run, discarded_run, closed_run}
 use Rattle.dispatch_core.proofs.ToldLaws.{firsts_run}
 use Rattle.local_group.specs.Groups.{Group}
 use Rattle.local_group.proofs.Fates.{one_fate}
@@ -37,6 +37,7 @@ keeps group lawfully = record {
   one_member = one_member group.events group.state lawfully.run lawfully.lawful;
   in_order = λ member. subst RisesByPort (firsts_run group.events group.state member lawfully.run) (lawfully.lawful.rising member);
   refused = λ before behind member job is. (refused_run before behind member job group.state (subst (λ events. IsRun events group.state) is lawfully.run)).0;
+  discarded = λ before behind member job is. (discarded_run before behind member job group.state (subst (λ events. IsRun events group.state) is lawfully.run)).0;
   closed = λ before behind is. (closed_run before behind group.state (subst (λ events. IsRun events group.state) is lawfully.run)).0;
   one_fate = λ report reports job. one_fate group report lawfully.lawful reports job;
 }

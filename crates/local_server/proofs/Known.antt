@@ -6,7 +6,7 @@ use Rattle.std.proofs.lemmas.List.Elements.{filter_map-append, Contains-append_c
 use Rattle.std.proofs.lemmas.List.Sums.{sum_by-cons}
 use Rattle.std.proofs.lemmas.Option.{slice_get_within, slice_get-get_or, same_Some}
 use Rattle.dispatch_core.specs.declared.event.Event.{Event}
-use Rattle.dispatch_core.specs.declared.event.Event.TheVariants.{Accept, First, Ack, Refuse, Back, Again, Close}
+use Rattle.dispatch_core.specs.declared.event.Event.TheVariants.{Accept, First, Ack, Refuse, Discard, Back, Again, Close}
 use Rattle.dispatch_core.specs.GroupState.{accepted_of}
 use Rattle.dispatch_core.specs.Mentions.{is_accept}
 use Rattle.dispatch_core.specs.Step.{next_job}
@@ -106,6 +106,7 @@ module _ (log : Log) (slot : ℕ) where
   settles : (how : Fate) (old new : Group) (envelope : Held) → Settles old envelope how new → accepted_in_all new.events ≡ accepted_in_all old.events
   settles fate.Acknowledged old new envelope does = none_accepted old new _ does.event refl
   settles fate.Refused old new envelope does = none_accepted old new _ does.event refl
+  settles fate.Discarded old new envelope does = none_accepted old new _ does.event refl
 
   pub settled : (how : Fate) (old new : Group) (place : ℕ) (envelope : Held) → IsSettled old place envelope how new → Knows log slot old → Knows log slot new
   settled how old new place envelope does was =
@@ -216,6 +217,7 @@ counted_ports (event ∷ events) port = sum_by-cons (λ e. cond (is_accept port 
     counted_one (First member job) rest = zero-add (count_by (is_accept port) events) ∙ rest
     counted_one (Ack member job) rest = zero-add (count_by (is_accept port) events) ∙ rest
     counted_one (Refuse member job) rest = zero-add (count_by (is_accept port) events) ∙ rest
+    counted_one (Discard member job) rest = zero-add (count_by (is_accept port) events) ∙ rest
     counted_one (Back member job) rest = zero-add (count_by (is_accept port) events) ∙ rest
     counted_one (Again member job) rest = zero-add (count_by (is_accept port) events) ∙ rest
     counted_one Close rest = zero-add (count_by (is_accept port) events) ∙ rest

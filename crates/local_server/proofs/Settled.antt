@@ -67,6 +67,7 @@ closed old new does =
 settles : (how : Fate) (old new : Group) (envelope : Held) → Settles old envelope how new → Ends ((envelope.place, job_of envelope.stamp, how) ∷ []) old new
 settles fate.Acknowledged old new envelope does = one_event (Some (envelope.place, job_of envelope.stamp, fate.Acknowledged)) old new _ does.event refl
 settles fate.Refused old new envelope does = one_event (Some (envelope.place, job_of envelope.stamp, fate.Refused)) old new _ does.event refl
+settles fate.Discarded old new envelope does = one_event (Some (envelope.place, job_of envelope.stamp, fate.Discarded)) old new _ does.event refl
 
 settles_out : (how : Fate) (old new : Group) (place : ℕ) (envelope : Held) → IsOutAt old place envelope → IsSettled old place envelope how new
     → Ends ((envelope.place, job_of envelope.stamp, how) ∷ []) old new

@@ -29,6 +29,9 @@ pub record KeepsPromises (group : Group) : Type 0 where
   -- a refused message goes to nobody else (4.8.2)
   pub refused : (before behind : List Event) (member : ℕ) (job : Job) → group.events ≡ before ++ event.Refuse member job ∷ behind
       → All (λ later. ¬ HandsOutJob job later) behind
+  -- nor does a discarded one
+  pub discarded : (before behind : List Event) (member : ℕ) (job : Job) → group.events ≡ before ++ event.Discard member job ∷ behind
+      → All (λ later. ¬ HandsOutJob job later) behind
   -- nothing is accepted and nothing handed out after close
   pub closed : (before behind : List Event) → group.events ≡ before ++ event.Close ∷ behind → All (λ later. ¬ NeedsOpen later) behind
   -- a report gives each accepted message exactly one fate, and no other message any

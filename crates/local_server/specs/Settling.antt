@@ -3,7 +3,7 @@ use Rattle.std.specs.Prelude.{◌≡◌, ◌≢◌, ℕ, nat_eq, if◌then◌els
 use Rattle.std.specs.List.{list_any}
 use Rattle.mqtt_packet.specs.declared.packet.Packet.TheVariants as packets
 use Rattle.dispatch_core.specs.declared.event.Event.{Event}
-use Rattle.dispatch_core.specs.declared.event.Event.TheVariants.{Accept, First, Ack, Refuse, Back, Again, Close}
+use Rattle.dispatch_core.specs.declared.event.Event.TheVariants.{Accept, First, Ack, Refuse, Discard, Back, Again, Close}
 use Rattle.dispatch_core.specs.declared.event.Job.{Job}
 use Rattle.group_jobs.specs.declared.fate.Fate.{Fate}
 use Rattle.group_jobs.specs.declared.fate.Fate.TheVariants as fate
@@ -42,6 +42,7 @@ settled_in (Accept port) = None
 settled_in (First member job) = None
 settled_in (Ack member job) = Some (member, job, fate.Acknowledged)
 settled_in (Refuse member job) = Some (member, job, fate.Refused)
+settled_in (Discard member job) = Some (member, job, fate.Discarded)
 settled_in (Back member job) = None
 settled_in (Again member job) = None
 settled_in Close = None

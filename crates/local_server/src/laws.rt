@@ -29,7 +29,7 @@ ghost use Rattle.local_server.specs.LastEvents.{AllAddTheClose};
 /// **The headline on one thread**, whatever events happen to a server, over however many connections and in whatever order, and whether memory
 /// was wanted in them or not: each accepted message is first handed to at most one member, once; each member's first hand-outs from a publisher
 /// keep that publisher's order; no connection has more unacknowledged PUBLISH packets than its Receive Maximum; a refused message goes to nobody
-/// else; nothing is accepted or handed out after close; and a report gives each accepted message exactly one fate.
+/// else, nor does a discarded one; nothing is accepted or handed out after close; and a report gives each accepted message exactly one fate.
 pub fn headline_law()
     ensures { (setup : Setup) (events : List TimedEvent) (first last : ServerState) →
         IsNewServer setup first → GoesThrough first events last → HoldsTheHeadline last }
@@ -91,7 +91,7 @@ pub fn eager_law()
         IsNewServer setup first → HappensAll first events said last → AllHandReturnedFirst last.broker }
 {}
 
-/// **What is acknowledged is settled**, along every run (sections 3.4 and 4.3.2): the events of a group by which a message is acknowledged or refused
+/// **What is acknowledged is settled**, along every run (sections 3.4 and 4.3.2): the events of a group by which a message is acknowledged, refused or discarded
 /// are, in order, what the `Acked` marks among the transcripts of the sessions acknowledge, each the message that its session held under the mark's
 /// identifier, by the place that was handed it, acknowledged where the Reason Code is below 0x80, and refused else. And whatever a session holds, of an
 /// open connection or with the desk, is out at that session's place. So each `Acked` of a transcript is one settlement in its group, and no event of

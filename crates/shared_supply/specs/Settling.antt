@@ -1,9 +1,8 @@
 -- How a place settles a message, and when it gathers what it settled into its group's ledger.
-use Rattle.std.specs.Prelude.{◌≡◌, ℕ, ◌+◌, ◌%◌, ◌<◌, min, List, length, Bool, true, false, Ok, Err}
+use Rattle.std.specs.Prelude.{◌≡◌, ℕ, ◌%◌, ◌<◌, min, List, length, sum_by, Bool, true, false, Ok, Err}
 use Rattle.group_jobs.specs.declared.error.JobError.TheVariants.{Memory}
 use Rattle.group_jobs.specs.declared.fate.Fate.{Fate}
-use Rattle.group_jobs.specs.declared.fate.Fate.TheVariants.{Acknowledged, Refused}
-use Rattle.group_jobs.specs.Settled.{runs_of}
+use Rattle.group_jobs.specs.Settled.{fates, runs_of}
 use Rattle.group_jobs.specs.Stamps.{Held, job_of}
 use Rattle.group_jobs.specs.declared.ledger.Ledger.{Ledger}
 use Rattle.shared_ledger.specs.declared.share.Share.{Share}
@@ -11,7 +10,7 @@ use Rattle.group_queue.specs.Places.{PlaceState, GatherAnswers, IsSamePlace, Set
 
 -- how many runs a place's docket has, of whatever fate, or 2^64 - 1 where they are more
 abbrev pub runs_at : PlaceState → ℕ
-runs_at place = min (length (runs_of Acknowledged place.docket.settled) + length (runs_of Refused place.docket.settled)) 18446744073709551615
+runs_at place = min (sum_by (λ fate. length (runs_of fate place.docket.settled)) fates) 18446744073709551615
 
 -- the docket, which had so many runs, has so many now: they are more, and a further 64 of them are full
 abbrev pub IsDue : ℕ → ℕ → Type 0

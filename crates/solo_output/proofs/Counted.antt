@@ -13,7 +13,7 @@ use Rattle.dispatch_core.specs.History.{IsRun}
 use Rattle.dispatch_core.specs.Mentions.{is_accept, accepts_of}
 use Rattle.dispatch_core.proofs.Spots.{same_job}
 use Rattle.dispatch_core.proofs.JobLists.{count_of-cons, count_of-append}
-use Rattle.group_jobs.specs.declared.fate.Fate.TheVariants.{Acknowledged, Refused}
+use Rattle.group_jobs.specs.declared.fate.Fate.TheVariants.{Acknowledged, Refused, Discarded}
 use Rattle.group_jobs.specs.Spots.{Lists, times_out, times_settled}
 use Rattle.local_group.specs.Groups.{Group, Adds, IsFresh}
 use Rattle.local_group.proofs.Spots.{lists_more, lists_less, lists_same}
@@ -51,13 +51,14 @@ first_kept old new job at moves may were other place held =
     (same_job other job)
 
 -- The events of a group are a run; through port 0 it accepted so many messages, and through no other any; so many are acknowledged, so
--- many refused, and these are out.
+-- many refused, none is discarded, and these are out.
 pub record IsCounted (accepted acknowledged refused : ℕ) (out : List Job) (group : Group) : Type 0 where
   pub run : IsRun group.events group.state
   pub through : accepts_of group.events 0 ≡ accepted
   pub no_other : (port : ℕ) → port ≢ 0 → accepts_of group.events port ≡ 0
   pub good : Counted (times_settled Acknowledged) group.state acknowledged
   pub bad : Counted (times_settled Refused) group.state refused
+  pub none_off : Lists (times_settled Discarded) group.state []
   pub out_are : Lists times_out group.state out
   pub at_first : AreAtFirst group.state
 
@@ -83,6 +84,7 @@ module _ (old new : Group) (accepted acknowledged refused : ℕ) (out : List Job
         no_other = λ port other. not_grown (Accept 0) port (ne_eqb 0 port (λ e. other (sym e))) adds ∙ counted.no_other port other;
         good = counted_same (times_settled Acknowledged) old.state new.state job spot.Queued moves acknowledged counted.good (ap (times_settled Acknowledged) none) refl;
         bad = counted_same (times_settled Refused) old.state new.state job spot.Queued moves refused counted.bad (ap (times_settled Refused) none) refl;
+        none_off = lists_same (times_settled Discarded) old.state new.state job spot.Queued moves [] (ap (times_settled Discarded) none) refl counted.none_off;
         out_are = lists_same times_out old.state new.state job spot.Queued moves out (ap times_out none) refl counted.out_are;
         at_first = first_kept old.state new.state job spot.Queued moves (λ place e. absurd (cc)) counted.at_first;
       }
@@ -98,6 +100,7 @@ module _ (old new : Group) (accepted acknowledged refused : ℕ) (out : List Job
         no_other = λ port other. not_grown (First 0 job) port refl adds ∙ counted.no_other port other;
         good = counted_same (times_settled Acknowledged) old.state new.state job (spot.Held 0) moves acknowledged counted.good (ap (times_settled Acknowledged) was) refl;
         bad = counted_same (times_settled Refused) old.state new.state job (spot.Held 0) moves refused counted.bad (ap (times_settled Refused) was) refl;
+        none_off = lists_same (times_settled Discarded) old.state new.state job (spot.Held 0) moves [] (ap (times_settled Discarded) was) refl counted.none_off;
         out_are =
             lists_more times_out old.state new.state job (spot.Held 0) moves out (out ++ job ∷ []) (ap times_out was) refl
             (λ other. omega (arith, count_of-append other out (job ∷ []))) counted.out_are;
@@ -115,6 +118,7 @@ module _ (old new : Group) (accepted acknowledged refused : ℕ) (out : List Job
         no_other = λ port other. not_grown (Ack place job) port refl adds ∙ counted.no_other port other;
         good = counted_more (times_settled Acknowledged) old.state new.state job (spot.Acked place) moves acknowledged counted.good (ap (times_settled Acknowledged) was) refl;
         bad = counted_same (times_settled Refused) old.state new.state job (spot.Acked place) moves refused counted.bad (ap (times_settled Refused) was) refl;
+        none_off = lists_same (times_settled Discarded) old.state new.state job (spot.Acked place) moves [] (ap (times_settled Discarded) was) refl counted.none_off;
         out_are = lists_less times_out old.state new.state job (spot.Acked place) moves out less (ap times_out was) refl more counted.out_are;
         at_first = first_kept old.state new.state job (spot.Acked place) moves (λ other e. absurd (cc)) counted.at_first;
       }
@@ -130,6 +134,7 @@ module _ (old new : Group) (accepted acknowledged refused : ℕ) (out : List Job
         no_other = λ port other. not_grown (Refuse place job) port refl adds ∙ counted.no_other port other;
         good = counted_same (times_settled Acknowledged) old.state new.state job (spot.Refused place) moves acknowledged counted.good (ap (times_settled Acknowledged) was) refl;
         bad = counted_more (times_settled Refused) old.state new.state job (spot.Refused place) moves refused counted.bad (ap (times_settled Refused) was) refl;
+        none_off = lists_same (times_settled Discarded) old.state new.state job (spot.Refused place) moves [] (ap (times_settled Discarded) was) refl counted.none_off;
         out_are = lists_less times_out old.state new.state job (spot.Refused place) moves out less (ap times_out was) refl more counted.out_are;
         at_first = first_kept old.state new.state job (spot.Refused place) moves (λ other e. absurd (cc)) counted.at_first;
       }
@@ -145,6 +150,7 @@ module _ (old new : Group) (accepted acknowledged refused : ℕ) (out : List Job
         no_other = λ port other. not_grown (Back place job) port refl adds ∙ counted.no_other port other;
         good = counted_same (times_settled Acknowledged) old.state new.state job spot.Returned moves acknowledged counted.good (ap (times_settled Acknowledged) was) refl;
         bad = counted_same (times_settled Refused) old.state new.state job spot.Returned moves refused counted.bad (ap (times_settled Refused) was) refl;
+        none_off = lists_same (times_settled Discarded) old.state new.state job spot.Returned moves [] (ap (times_settled Discarded) was) refl counted.none_off;
         out_are = lists_less times_out old.state new.state job spot.Returned moves out less (ap times_out was) refl more counted.out_are;
         at_first = first_kept old.state new.state job spot.Returned moves (λ other e. absurd (cc)) counted.at_first;
       }
@@ -162,6 +168,7 @@ none_counted group fresh =
       no_other = λ port other. ap (λ (es : List Event). accepts_of es port) fresh.events;
       good = record { jobs = []; lists = none (times_settled Acknowledged) refl; long = refl };
       bad = record { jobs = []; lists = none (times_settled Refused) refl; long = refl };
+      none_off = none (times_settled Discarded) refl;
       out_are = none times_out refl;
       at_first = λ job place held. absurd (none_some (sym (fresh.state.no_job job) ∙ held));
     }

@@ -114,7 +114,7 @@ held_or_back true n = omega arith
 held_or_back false n = omega arith
 
 pub fates_all : (setup : Setup) (packets : List Packet) (slot : ℕ) → let solo = (run_of setup packets).solo in let accepted = length (accepted_in slot solo.groups) in
-    let fates = counts_of solo.terms.session_expiry_interval accepted (handed_in slot solo.handed_out) in fates.acknowledged + fates.refused + fates.held + fates.queued + fates.returned ≡ accepted
+    let fates = counts_of solo.terms.session_expiry_interval accepted (handed_in slot solo.handed_out) in fates.acknowledged + fates.refused + fates.held + fates.queued + fates.returned + fates.discarded ≡ accepted
 fates_all setup packets slot =
     let solo = (run_of setup packets).solo in
     let own = handed_in slot solo.handed_out in

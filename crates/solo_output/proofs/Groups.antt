@@ -12,7 +12,7 @@ use Rattle.dispatch_core.specs.JobRuns.{count_of}
 use Rattle.dispatch_core.proofs.JobLists.{count_of-cons}
 use Rattle.dispatch_core.proofs.RunLaws.{count_run}
 use Rattle.group_jobs.specs.declared.fate.Fate.{Fate}
-use Rattle.group_jobs.specs.declared.fate.Fate.TheVariants.{Acknowledged, Refused}
+use Rattle.group_jobs.specs.declared.fate.Fate.TheVariants.{Acknowledged, Refused, Discarded}
 use Rattle.group_jobs.specs.declared.message.Message.{Message}
 use Rattle.group_jobs.specs.declared.stamp.Stamp.{Stamp}
 use Rattle.group_jobs.specs.Stamps.{Held, job_of}
@@ -86,6 +86,7 @@ out_if (Some spot.Queued) some = absurd (omega arith)
 out_if (Some (spot.Held place)) some = (place, refl)
 out_if (Some (spot.Acked place)) some = absurd (omega arith)
 out_if (Some (spot.Refused place)) some = absurd (omega arith)
+out_if (Some (spot.Discarded place)) some = absurd (omega arith)
 out_if (Some spot.Returned) some = absurd (omega arith)
 
 pub is_out : (group : Group) (slot accepted good bad : ℕ) (out : List Job) (identifier : ℕ) (envelope : Held) → group.slot ≡ slot → IsCounted accepted good bad out group
@@ -248,6 +249,7 @@ module _ (capacity slot : ℕ) (accepted : List Message) (hand_outs : List HandO
       keeps : (fate : Fate) → Settles old envelope fate new → (new.slot ≡ old.slot) × (new.capacity ≡ old.capacity) × (new.state.closed ≡ old.state.closed)
       keeps Acknowledged does = (does.event.form.slot, does.event.form.capacity, does.event.step.made.2)
       keeps Refused does = (does.event.form.slot, does.event.form.capacity, does.event.step.made.2)
+      keeps Discarded does = (does.event.form.slot, does.event.form.capacity, does.event.step.made.2)
 
       did : Settles old envelope (fate_of code) new → ShowsGroup capacity slot accepted (map (settled identifier code) hand_outs) (entries_without identifier entries) new
       did does =

@@ -8,7 +8,7 @@ use Rattle.dispatch_core.specs.GroupState.{accepted_of}
 use Rattle.dispatch_core.specs.JobRuns.{count_of}
 use Rattle.dispatch_core.proofs.JobLists.{count_of-cons}
 use Rattle.dispatch_core.proofs.RunLaws.{count_run}
-use Rattle.group_jobs.specs.declared.fate.Fate.TheVariants.{Acknowledged, Refused}
+use Rattle.group_jobs.specs.declared.fate.Fate.TheVariants.{Acknowledged, Refused, Discarded}
 use Rattle.group_jobs.specs.declared.report.Report.{Report}
 use Rattle.group_jobs.specs.Reports.{report_line, labelled}
 use Rattle.group_jobs.specs.Settled.{settled_as}
@@ -47,7 +47,7 @@ sum_first (x ∷ xs) n some first others =
     omega (arith, sum_by-cons (λ (m : ℕ). m) x xs, first, rest)
 
 abbrev pub fates_are : ℕ → ℕ → ℕ → ℕ → ℕ → Fates
-fates_are good bad held queued returned = record { acknowledged = good; refused = bad; held = held; queued = queued; returned = returned }
+fates_are good bad held queued returned = record { acknowledged = good; refused = bad; held = held; queued = queued; returned = returned; discarded = 0 }
 
 module _ (accepted good bad queued returned slot : ℕ) (entries : List (ℕ × Held)) (group : Group) (is : IsEnding accepted good bad queued returned slot entries group) (report : Report) (reports : Reports group report) where
   through : (port : ℕ) → port < 64 → slice_index_or report.accepted.items port 0 ≡ accepted_of group.state port
@@ -66,6 +66,9 @@ module _ (accepted good bad queued returned slot : ℕ) (entries : List (ℕ × 
   told_bad : length (settled_as Refused report.settled) ≡ bad
   told_bad = as_long (settled_as Refused report.settled) is.counted.bad.jobs (λ job. reports.settled Refused job ∙ sym (is.counted.bad.lists job)) ∙ is.counted.bad.long
 
+  told_off : length (settled_as Discarded report.settled) ≡ 0
+  told_off = as_long (settled_as Discarded report.settled) [] (λ job. reports.settled Discarded job ∙ sym (is.counted.none_off job))
+
   told_held : length report.held.items ≡ length entries
   told_held = as_long report.held.items (jobs_of entries) (λ job. reports.held job ∙ sym (is.counted.out_are job)) ∙ length-map entries (λ (e : ℕ × Held). job_of e.1.stamp)
 
@@ -80,4 +83,5 @@ module _ (accepted good bad queued returned slot : ℕ) (entries : List (ℕ × 
   line_is share =
       λ i. share.text ++ labelled (codes " accepted ") (total i) ++ labelled (codes " acknowledged ") (told_good i)
       ++ labelled (codes " refused ") (told_bad i) ++ labelled (codes " held ") (told_held i)
-      ++ labelled (codes " queued ") (told_queued i) ++ labelled (codes " returned ") (told_returned i) ++ 10 ∷ []
+      ++ labelled (codes " queued ") (told_queued i) ++ labelled (codes " returned ") (told_returned i)
+      ++ labelled (codes " discarded ") (told_off i) ++ 10 ∷ []

@@ -11,8 +11,9 @@ pub record Fates : Type 0 where
   pub held : ℕ
   pub queued : ℕ
   pub returned : ℕ
+  pub discarded : ℕ
 
--- Each accepted message is acknowledged, refused, held, queued or returned: what is unacknowledged at the end of the connection is
+-- Each accepted message is acknowledged, refused, held, queued or returned, and none is discarded: what is unacknowledged at the end of the connection is
 -- returned where the session ends with it, and else held (3.1.2.11.2).
 abbrev pub counts_of : ℕ → ℕ → List HandOut → Fates
 counts_of expiry accepted hand_outs = record {
@@ -21,6 +22,7 @@ counts_of expiry accepted hand_outs = record {
   held = if expiry == 0 then 0 else length (open_identifiers hand_outs);
   queued = accepted - length hand_outs;
   returned = if expiry == 0 then length (open_identifiers hand_outs) else 0;
+  discarded = 0;
 }
 
 -- the share's text, the counts, and 0A
@@ -28,7 +30,7 @@ abbrev pub line_of : Share → ℕ → Fates → List ℕ
 line_of share accepted fates =
     share.text ++ labelled (codes " accepted ") accepted ++ labelled (codes " acknowledged ") fates.acknowledged
     ++ labelled (codes " refused ") fates.refused ++ labelled (codes " held ") fates.held ++ labelled (codes " queued ") fates.queued
-    ++ labelled (codes " returned ") fates.returned ++ 10 ∷ []
+    ++ labelled (codes " returned ") fates.returned ++ labelled (codes " discarded ") fates.discarded ++ 10 ∷ []
 
 -- the group of this slot
 abbrev pub report_of : ℕ → Bound → SoloState → List ℕ

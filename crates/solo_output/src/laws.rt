@@ -126,7 +126,7 @@ pub fn every_run_is_lawful()
     ensures one_fate { (setup : Setup) (packets : List Packet) (slot : ℕ) → let solo = (run_of setup packets).solo in
         let accepted = length (accepted_in slot solo.groups) in
         let fates = counts_of solo.terms.session_expiry_interval accepted (handed_in slot solo.handed_out) in
-        fates.acknowledged + fates.refused + fates.held + fates.queued + fates.returned ≡ accepted }
+        fates.acknowledged + fates.refused + fates.held + fates.queued + fates.returned + fates.discarded ≡ accepted }
     ensures eager { (setup : Setup) (packets : List Packet) (slot : ℕ) → let solo = (run_of setup packets).solo in
         solo.phase ≡ Connected → solo.membership ≡ Member slot →
         (waiting_in slot solo ≡ []) ⊎ (length (unacknowledged solo) ≡ quota solo) }

@@ -8,7 +8,7 @@ use Rattle.dispatch_core.specs.JobRuns.{count_of, jobs_of}
 use Rattle.dispatch_core.proofs.JobLists.{count_of-append, count_of-cons}
 use Rattle.dispatch_core.proofs.Stored.{counts_permuted}
 use Rattle.group_jobs.specs.declared.fate.Fate.{Fate}
-use Rattle.group_jobs.specs.declared.fate.Fate.TheVariants.{Acknowledged, Refused}
+use Rattle.group_jobs.specs.declared.fate.Fate.TheVariants.{Acknowledged, Refused, Discarded}
 use Rattle.group_jobs.specs.declared.ledger.Ledger.{Ledger}
 use Rattle.group_jobs.specs.Settled.{Settles, settled_as}
 use Rattle.group_jobs.specs.Stamps.{Held, job_of}
@@ -163,8 +163,14 @@ settled_one Acknowledged Acknowledged job other old new does =
     omega (arith, counts_permuted (job ∷ settled_as Acknowledged old) (settled_as Acknowledged new) other does.there, count_of-cons other job (settled_as Acknowledged old))
 settled_one Refused Refused job other old new does =
     omega (arith, counts_permuted (job ∷ settled_as Refused old) (settled_as Refused new) other does.there, count_of-cons other job (settled_as Refused old))
+settled_one Discarded Discarded job other old new does =
+    omega (arith, counts_permuted (job ∷ settled_as Discarded old) (settled_as Discarded new) other does.there, count_of-cons other job (settled_as Discarded old))
 settled_one Acknowledged Refused job other old new does = let same = ap (λ list. count_of other (jobs_of list.runs)) (does.others Refused (λ e. cc)) in omega (arith, same)
+settled_one Acknowledged Discarded job other old new does = let same = ap (λ list. count_of other (jobs_of list.runs)) (does.others Discarded (λ e. cc)) in omega (arith, same)
 settled_one Refused Acknowledged job other old new does = let same = ap (λ list. count_of other (jobs_of list.runs)) (does.others Acknowledged (λ e. cc)) in omega (arith, same)
+settled_one Refused Discarded job other old new does = let same = ap (λ list. count_of other (jobs_of list.runs)) (does.others Discarded (λ e. cc)) in omega (arith, same)
+settled_one Discarded Acknowledged job other old new does = let same = ap (λ list. count_of other (jobs_of list.runs)) (does.others Acknowledged (λ e. cc)) in omega (arith, same)
+settled_one Discarded Refused job other old new does = let same = ap (λ list. count_of other (jobs_of list.runs)) (does.others Refused (λ e. cc)) in omega (arith, same)
 
 -- what it settled is in its docket, or in what it gave to its group's ledger
 gathered : (saw : List Ledger → List Share → Type 0) (old new : PlaceState) (is_missed : Bool) → Gathers saw old is_missed new → DoesMore old new never never never by_none

@@ -51,8 +51,8 @@ module _ {T : Type 0} (group : ℕ → GroupId) (seen : Sights) (counts : T → 
   -- closed as the run left it (`run`). Through
   -- the ports that the runs ended with, and with the sessions, places and messages that the calls of the desk led to, of each group whose report is given (`promises`): each
   -- message that was accepted was first handed to at most one member (`first_once`), each member's first hand-outs from a publisher keep that publisher's order (`in_order`),
-  -- a refused message went to nobody else (`refused_for_good`), and the report gives each accepted message exactly one fate (`one_fate`), which it had (`what_happened`). No
-  -- connection had more unacknowledged PUBLISH packets than its Receive Maximum. Each of those calls put a place into the new desk, or was made in the run of one
+  -- a refused message went to nobody else (`refused_for_good`), nor did a discarded one (`discarded_for_good`), and the report gives each accepted message exactly one fate
+  -- (`one_fate`), which it had (`what_happened`). No connection had more unacknowledged PUBLISH packets than its Receive Maximum. Each of those calls put a place into the new desk, or was made in the run of one
   -- worker, once (`opened`, `taken_in` and `each_call_once`): so no session and no place came out of the desk but by a deed. And each place that the desk had in the end (`promises.0`) did
   -- what the calls of the runs did there, and nothing else (`came_of_calls`): it was handed a message, gave it back, or settled it, as often as a step of a connection did that at this
   -- place; the messages that the calls of a step hand out are those of its PUBLISH packets with DUP 0, in their order, and what they settle is what the PUBACK came for (`calls_are`). The report of a slot is that of the share that is told at its place: to its group

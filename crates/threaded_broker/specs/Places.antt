@@ -3,7 +3,7 @@ use Rattle.std.specs.Prelude.{◌≡◌, ℕ, ◌&&◌, nat_eq, if◌then◌else
 use Rattle.dispatch_core.specs.declared.event.Job.{Job}
 use Rattle.dispatch_core.specs.JobRuns.{count_of}
 use Rattle.group_jobs.specs.declared.fate.Fate.{Fate}
-use Rattle.group_jobs.specs.declared.fate.Fate.TheVariants.{Acknowledged, Refused}
+use Rattle.group_jobs.specs.declared.fate.Fate.TheVariants.{Acknowledged, Refused, Discarded}
 use Rattle.group_jobs.specs.Stamps.{Held, job_of}
 use Rattle.group_queue.specs.Places.{PlaceState}
 use Rattle.conn_supply.specs.SupplyCalls.{SupplyCall}
@@ -31,8 +31,8 @@ once_taken job envelope (Err error) = 0
 abbrev pub only_by : Fate → Fate → ℕ → ℕ
 only_by Acknowledged Acknowledged times = times
 only_by Refused Refused times = times
-only_by Acknowledged Refused times = 0
-only_by Refused Acknowledged times = 0
+only_by Discarded Discarded times = times
+only_by fate other times = 0
 
 -- how often a call hands the message with this job to that place for the first time, and again; how often the place gives it back by that call, and settles it by this fate
 abbrev pub first_handed : (slot number : ℕ) → Job → SupplyCall PlaceState → ℕ

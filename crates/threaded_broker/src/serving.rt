@@ -94,7 +94,7 @@ pub struct Closed<'g, B: Broker, N: HistoryName, S, Q> {
 ///
 /// - each message that was accepted was first handed to at most one member, once (`first_once`);
 /// - each member's first hand-outs from a publisher keep that publisher's order (`in_order`);
-/// - a refused message went to nobody else (`refused_for_good`);
+/// - a refused message went to nobody else (`refused_for_good`), nor did a discarded one (`discarded_for_good`);
 /// - the report gives each accepted message exactly one fate, and nothing else any (`one_fate`), and that is the one that it had (`what_happened`).
 ///
 /// And each place did what the calls of the connections' steps did there, and nothing else (`came_of_calls`): these are one list for each run (`calls_are`), in which what a step hands out

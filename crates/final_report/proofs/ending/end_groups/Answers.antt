@@ -1,6 +1,6 @@
 -- Each promise is read off what each group's end says.
 use Rattle.std.proofs.lemmas.Result.{IfOk-weaker}
-use Rattle.final_report.proofs.Brokers.{ended_first_once, ended_in_order, ended_refused_for_good, ended_one_fate, ended_what_happened, ended_lawful}
+use Rattle.final_report.proofs.Brokers.{ended_first_once, ended_in_order, ended_refused_for_good, ended_discarded_for_good, ended_one_fate, ended_what_happened, ended_lawful}
 use Rattle.final_report.proofs.Held.{none_lacks}
 use Rattle.final_report.proofs.ending.end_groups.Goals as goal
 
@@ -20,6 +20,12 @@ pub returns-clause-refused_for_good : goal.returns-clause-refused_for_good
 returns-clause-refused_for_good g c =
     IfOk-weaker c.finish.result _ _
     (λ ended e. ended_refused_for_good g.B.Broker.group c.args.ports.items c.args.places.items c.args.held.items ended.answers.items e c.one_fate_law.ensures)
+    c.finish.ensures.ended
+
+pub returns-clause-discarded_for_good : goal.returns-clause-discarded_for_good
+returns-clause-discarded_for_good g c =
+    IfOk-weaker c.finish.result _ _
+    (λ ended e. ended_discarded_for_good g.B.Broker.group c.args.ports.items c.args.places.items c.args.held.items ended.answers.items e c.one_fate_law.ensures)
     c.finish.ensures.ended
 
 pub returns-clause-one_fate : goal.returns-clause-one_fate
