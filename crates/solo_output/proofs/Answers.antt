@@ -1,5 +1,5 @@
 -- The answer to a packet of a client that has its session is that of the model.
-use Rattle.std.proofs.Common.{◌≡◌, ◌⊎◌, ℕ, Bool, true, false, cond, List, [], length, Contains, Option, Some, None, is_some, refl, sym, ap, ◌∙◌, subst, inl, inr}
+use Rattle.std.proofs.Common.{◌≡◌, ◌⊎◌, ℕ, Bool, true, false, cond, List, [], length, Contains, Option, Some, None, refl, sym, ap, ◌∙◌, subst, inl, inr}
 use Rattle.mqtt_packet.specs.declared.packet.Packet.{Packet}
 use Rattle.mqtt_packet.specs.declared.packet.Packet.TheVariants as packets
 use Rattle.mqtt_packet.specs.declared.packet.Publish.{Publish}
@@ -25,13 +25,13 @@ use Rattle.conn_supply.specs.declared.reply.Reply.{Reply as ConnReply}
 use Rattle.conn_supply.specs.Memberships.{with_window, with_membership as having}
 use Rattle.conn_supply.specs.Publishing.{Offers, AnswersPublish}
 use Rattle.conn_supply.specs.Acknowledging.{AcknowledgesFor}
-use Rattle.conn_supply.specs.Subscribing.{SubscribesAs, UnsubscribesAs}
+use Rattle.conn_supply.specs.Subscribing.{SubscribesAs, UnsubscribesAs, subscription_after}
 use Rattle.conn_engine.specs.declared.phase.ConnectedClient.{ConnectedClient}
-use Rattle.conn_engine.specs.Answering.{Answers, Disconnects, DisconnectsIf, joining, expiring}
+use Rattle.conn_engine.specs.Answering.{Answers, Disconnects, DisconnectsIf, joining, subscribing, expiring}
 use Rattle.local_broker.specs.Places.{GroupPlace}
 use Rattle.local_broker.specs.Broker.{Broker}
 use Rattle.local_broker.specs.Calls.{Calls}
-use Rattle.solo_output.specs.Groups.{SoloState, HandOut, unacknowledged, with_puback, with_phase}
+use Rattle.solo_output.specs.Groups.{SoloState, HandOut, unacknowledged, with_puback, with_subscription, with_phase}
 use Rattle.solo_output.specs.Groups.Phase.{Closed}
 use Rattle.solo_output.specs.Publishing.{Reply, closing, matching, offer_to, publish_reply_as}
 use Rattle.solo_output.specs.Subscribing.{subscribe_reply_as, unsubscribe_reply_as, join_all, leave_all}
@@ -42,7 +42,7 @@ use Rattle.solo_output.proofs.Desks.{ShowsDesk}
 use Rattle.solo_output.proofs.Lists.{settles_none}
 use Rattle.solo_output.proofs.Publishes.{offers, matching_below}
 use Rattle.solo_output.proofs.Settles.{IsAt, member_at, leaving_at, Acknowledged, acknowledges}
-use Rattle.solo_output.proofs.Sessions.{slot_at, placed, Idles, IsLentAs, ShowsSession, ShowsClient, offer_keeps, session_kept, session_in}
+use Rattle.solo_output.proofs.Sessions.{slot_at, placed, Idles, IsLentAs, ShowsSession, ShowsClient, offer_keeps, session_kept, session_in, session_under}
 use Rattle.solo_output.proofs.Subscribes.{joins_all, leaves_all}
 
 -- The connection goes on with the session that shows the model after the reply, or closes with it.
@@ -117,6 +117,7 @@ module _ (solo : SoloState) (connected : ConnectedClient GroupPlace) (old : Brok
           window = got.window;
           member = member;
           idles = idles;
+          subscribed = shows.session.subscribed;
           expiry = shows.session.expiry;
           lent = subst (λ (rows : Rows Held GroupPlace). IsLentAs rows connected.session.identity) (ap (λ d. d.rows) (sym got.desk)) shows.session.lent;
         })
@@ -146,18 +147,25 @@ module _ (solo : SoloState) (connected : ConnectedClient GroupPlace) (old : Brok
         (record { shows = got.shows; window = got.window; place = refl; desk = got.desk })
 
   -- ---- a SUBSCRIBE and an UNSUBSCRIBE
-  subscribes : (subscribe : Subscribe) (refusal : Option ℕ) (membership : Membership GroupPlace) (connected' : ConnectedClient GroupPlace) (reply : ConnReply) (new : Broker) → connected' ≡ joining connected membership
-      → SubscribesAs Calls slot_at refusal connected.terms old connected.session.membership subscribe reply membership new → Answered (subscribe_reply_as refusal subscribe solo) connected' reply new
-  subscribes subscribe (Some code) membership connected' reply new has_connected does = closes _ connected' reply new (has_connected ∙ ap (joining connected) does.1) does.0 does.2
-  subscribes subscribe None membership connected' reply new has_connected (codes, is, does) =
-      let identified = is_some subscribe.properties.subscription_identifier in
-      let all = joins_all identified connected.terms subscribe.subscriptions solo connected.session old new codes membership shows.session shows.terms does in
-      let behind = (join_all identified subscribe.subscriptions solo).solo in
+  subscribes : (subscribe : Subscribe) (refusal : Option ℕ) (membership : Membership GroupPlace) (subscription : Option ℕ) (connected' : ConnectedClient GroupPlace) (reply : ConnReply) (new : Broker)
+      → connected' ≡ subscribing connected membership subscription
+      → SubscribesAs Calls slot_at refusal connected.terms old connected.session.membership connected.session.subscription subscribe reply membership subscription new → Answered (subscribe_reply_as refusal subscribe solo) connected' reply new
+  subscribes subscribe (Some code) membership subscription connected' reply new has_connected does =
+      closes _ connected' reply new (has_connected ∙ (λ i. subscribing connected (does.1 i) (does.2 i))) does.0 does.3
+  subscribes subscribe None membership subscription connected' reply new has_connected (codes, is, does, after) =
+      let identifier = subscribe.properties.subscription_identifier in
+      let all = joins_all connected.terms subscribe.subscriptions solo connected.session old new codes membership shows.session shows.terms does in
+      let joined = join_all subscribe.subscriptions solo in
+      let own = subscription_after joined.codes identifier joined.solo.subscription in
+      let same : subscription ≡ own = after ∙ (λ i. subscription_after (all.codes_are i) identifier (all.shows.subscribed i)) in
+      let behind = with_subscription own joined.solo in
+      let session = session_under own joined.solo (having connected.session membership) new all.shows in
       record {
         told = ap (λ (r : ConnReply). r.packet) is ∙ ap (λ (l : List ℕ). Some (suback subscribe.packet_identifier l)) all.codes_are;
         stands = inl (
           ap (λ (r : ConnReply). r.next) is,
-          subst (λ (l : ConnectedClient GroupPlace). ShowsClient behind l new) (sym has_connected) (record { session = all.shows; terms = shows.terms ∙ sym all.terms; phase = all.phase ∙ shows.phase }),
+          subst (λ (l : ConnectedClient GroupPlace). ShowsClient behind l new) (sym (has_connected ∙ ap (subscribing connected membership) same))
+              (record { session = session; terms = shows.terms ∙ sym all.terms; phase = all.phase ∙ shows.phase }),
         );
       }
 
@@ -185,6 +193,7 @@ module _ (solo : SoloState) (connected : ConnectedClient GroupPlace) (old : Brok
         window = record { none_waits = was.window.none_waits; quota_is = was.window.quota_is; opens = was.window.opens; not_ending = was.window.not_ending };
         member = was.member;
         idles = was.idles;
+        subscribed = was.subscribed;
         expiry = refl;
         lent = was.lent;
       }
@@ -217,7 +226,7 @@ module _ (solo : SoloState) (connected : ConnectedClient GroupPlace) (old : Brok
       let code = puback.reason_code in
       let its = subst (λ (m : Membership GroupPlace). AcknowledgesFor Calls old m connected.session.window identifier code session.membership session.window new) shows.session.member acks.settles in
       gone_on identifier code session new connected' reply is acks.same has_connected (settles identifier code session new connected' reply is acks.same has_connected solo.membership refl its)
-  answers (packets.Subscribe subscribe) connected' reply new does = subscribes subscribe (subscribe_refusal subscribe) does.0 connected' reply new does.2 does.1
+  answers (packets.Subscribe subscribe) connected' reply new does = subscribes subscribe (subscribe_refusal subscribe) does.0 does.1 connected' reply new does.3 does.2
   answers (packets.Unsubscribe unsubscribe) connected' reply new does = unsubscribes unsubscribe (unsubscribe_refusal unsubscribe) does.0 connected' reply new does.2 does.1
   answers packets.Pingreq connected' reply new does = goes _ connected' reply new does.0 does.1 does.2
   answers (packets.Disconnect disconnect) connected' reply new does = disconnects disconnect.properties.session_expiry_interval connected' reply new does.0 does.1

@@ -209,6 +209,7 @@ attaches connect capacity max_inflight shares now phase reply old new is_new few
           window = record { none_waits = refl; quota_is = refl; opens = refl; not_ending = refl };
           member = refl;
           idles = refl;
+          subscribed = refl;
           expiry = refl;
           lent = subst (λ (b : Broker). IsLentAs b.desk.rows first.who) (sym same) first.lent;
         };

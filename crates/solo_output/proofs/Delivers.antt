@@ -1,5 +1,5 @@
 -- What is handed out after a reply is what the model delivers.
-use Rattle.std.proofs.Common.{◌≡◌, ◌≢◌, ℕ, List, [], ◌∷◌, ◌++◌, refl, sym, ap, ◌∙◌, subst, inl, inr}
+use Rattle.std.proofs.Common.{◌≡◌, ◌≢◌, ℕ, List, [], ◌∷◌, ◌++◌, Option, refl, sym, ap, ◌∙◌, subst, inl, inr}
 use Rattle.std.proofs.lemmas.List.{append-nil}
 use Rattle.mqtt_packet.specs.declared.packet.Packet.{Packet}
 use Rattle.group_jobs.specs.Stamps.{Held}
@@ -80,6 +80,7 @@ module _ (solo : SoloState) (connected : ConnectedClient GroupPlace) (old : Brok
                 window = window_as NotMember solo connected.session.window shows.session.window;
                 member = refl;
                 idles = empty;
+                subscribed = shows.session.subscribed;
                 expiry = shows.session.expiry;
                 lent = subst (λ (rows : Rows Held GroupPlace). IsLentAs rows connected.session.identity) (sym got.1.rows) shows.session.lent;
               };
@@ -97,7 +98,7 @@ module _ (solo : SoloState) (connected : ConnectedClient GroupPlace) (old : Brok
       (as_it_is [] membership window new refl (does.1 ∙ sym (shows.session.member ∙ ap placed is)) kept does.2)
 
   hands : (own : Membership ℕ) → solo.membership ≡ own → (fresh : List Packet) (membership : Membership GroupPlace) (window : Contents Held) (new : Broker)
-      → HandsFresh Calls old (placed own) connected.session.window fresh membership window new → Delivered (deliver_to own solo) connected fresh membership window new
+      → HandsFresh Calls solo.subscription old (placed own) connected.session.window fresh membership window new → Delivered (deliver_to own solo) connected fresh membership window new
   hands NotMember is fresh membership window new does = as_it_is fresh membership window new does.0 (does.1 ∙ sym (shows.session.member ∙ ap placed is)) does.2 does.3
   hands (Member slot) is fresh membership window new (place', as_, does) =
       let got = sends_fresh fresh slot solo is connected.session.window old shows.session.broker shows.session.window place' window new does in
@@ -114,6 +115,7 @@ module _ (solo : SoloState) (connected : ConnectedClient GroupPlace) (old : Brok
             window = got.window;
             member = as_ ∙ ap Member got.place ∙ ap placed (sym own);
             idles = subst (λ (m : Membership ℕ). Idles m window.owed) (sym own) tt;
+            subscribed = shows.session.subscribed ∙ sym keeps.subscription;
             expiry = shows.session.expiry ∙ ap (λ (t : Terms). t.session_expiry_interval) (sym keeps.terms);
             lent = subst (λ (rows : Rows Held GroupPlace). IsLentAs rows connected.session.identity) (ap (λ d. d.rows) (sym got.desk)) shows.session.lent;
           };
@@ -124,13 +126,14 @@ module _ (solo : SoloState) (connected : ConnectedClient GroupPlace) (old : Brok
   hands (Leaving slot) is fresh membership window new does =
       subst (λ (l : List Packet). Delivered (deliver_to (Leaving slot) solo) connected l membership window new) (sym does.0) (leaves slot is membership window new does.1 does.2)
 
-  pub delivers : (sent : List Packet) (membership : Membership GroupPlace) (window : Contents Held) (new : Broker) → HandsOut Calls old connected.session.membership connected.session.window sent membership window new
+  pub delivers : (sent : List Packet) (membership : Membership GroupPlace) (window : Contents Held) (new : Broker) → HandsOut Calls connected.session.subscription old connected.session.membership connected.session.window sent membership window new
       → Delivered (deliver solo) connected sent membership window new
   delivers sent membership window new does =
       let again = none_again does.again connected.session.window does.between shows.session.window.none_waits does.sent_again in
       let all_fresh : sent ≡ does.fresh = does.both ∙ ap (λ (l : List Packet). l ++ does.fresh) again.0 in
-      let its = subst (λ (w : Contents Held). HandsFresh Calls old connected.session.membership w does.fresh membership window new) again.1 does.sent_fresh in
-      let own = subst (λ (m : Membership GroupPlace). HandsFresh Calls old m connected.session.window does.fresh membership window new) shows.session.member its in
+      let its = subst (λ (w : Contents Held). HandsFresh Calls connected.session.subscription old connected.session.membership w does.fresh membership window new) again.1 does.sent_fresh in
+      let under = subst (λ (s : Option ℕ). HandsFresh Calls s old connected.session.membership connected.session.window does.fresh membership window new) shows.session.subscribed its in
+      let own = subst (λ (m : Membership GroupPlace). HandsFresh Calls solo.subscription old m connected.session.window does.fresh membership window new) shows.session.member under in
       let got = hands solo.membership refl does.fresh membership window new own in
       subst (λ (p : Phase). Delivered (deliver_in p solo) connected sent membership window new) (sym shows.phase)
       (subst (λ (l : List Packet). Delivered (deliver_to solo.membership solo) connected l membership window new) (sym all_fresh) got)

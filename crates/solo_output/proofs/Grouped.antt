@@ -61,6 +61,7 @@ groups_grow =
       joins = λ slot solo may within. stay solo.groups;
       leaves = λ slot solo is. stay solo.groups;
       parts = λ slot solo is none. stay solo.groups;
+      subscribes = λ subscription solo. stay solo.groups;
     }
 
 groups_ran : (packets : List Packet) (solo : SoloState) → GroupsGrow solo (solo_steps packets solo).solo
@@ -94,20 +95,20 @@ either_code : (b : Bool) → cond b 1 0 + cond (not b) 1 0 ≡ 1
 either_code true = refl
 either_code false = refl
 
-fate_first : (slot identifier : ℕ) (code : Option ℕ) (others : List HandOut) → good others + bad others + length (open_identifiers others) ≡ length others
-    → good (handed slot identifier code ∷ others) + bad (handed slot identifier code ∷ others) + length (open_identifiers (handed slot identifier code ∷ others)) ≡ suc (length others)
-fate_first slot identifier None others rest =
-    let one = handed slot identifier None in
+fate_first : (slot : ℕ) (subscription : Option ℕ) (identifier : ℕ) (code : Option ℕ) (others : List HandOut) → good others + bad others + length (open_identifiers others) ≡ length others
+    → good (handed slot subscription identifier code ∷ others) + bad (handed slot subscription identifier code ∷ others) + length (open_identifiers (handed slot subscription identifier code ∷ others)) ≡ suc (length others)
+fate_first slot subscription identifier None others rest =
+    let one = handed slot subscription identifier None in
     omega (arith, rest, sum_by-cons (λ (h : HandOut). cond (acknowledges h.code) 1 0) one others, sum_by-cons (λ (h : HandOut). cond (refuses h.code) 1 0) one others)
-fate_first slot identifier (Some code) others rest =
-    let one = handed slot identifier (Some code) in
+fate_first slot subscription identifier (Some code) others rest =
+    let one = handed slot subscription identifier (Some code) in
     let told : good (one ∷ others) ≡ cond (nat_lt code 128) 1 0 + good others = sum_by-cons (λ (h : HandOut). cond (acknowledges h.code) 1 0) one others in
     let not_told : bad (one ∷ others) ≡ cond (not (nat_lt code 128)) 1 0 + bad others = sum_by-cons (λ (h : HandOut). cond (refuses h.code) 1 0) one others in
     omega (arith, rest, told, not_told, either_code (nat_lt code 128))
 
 fates : (hand_outs : List HandOut) → good hand_outs + bad hand_outs + length (open_identifiers hand_outs) ≡ length hand_outs
 fates [] = refl
-fates (one ∷ others) = fate_first one.slot one.identifier one.code others (fates others)
+fates (one ∷ others) = fate_first one.slot one.subscription one.identifier one.code others (fates others)
 
 held_or_back : (b : Bool) (n : ℕ) → cond b 0 n + cond b n 0 ≡ n
 held_or_back true n = omega arith

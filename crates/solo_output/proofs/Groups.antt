@@ -15,7 +15,7 @@ use Rattle.group_jobs.specs.declared.fate.Fate.{Fate}
 use Rattle.group_jobs.specs.declared.fate.Fate.TheVariants.{Acknowledged, Refused, Discarded}
 use Rattle.group_jobs.specs.declared.message.Message.{Message}
 use Rattle.group_jobs.specs.declared.stamp.Stamp.{Stamp}
-use Rattle.group_jobs.specs.Stamps.{Held, job_of}
+use Rattle.group_jobs.specs.Stamps.{Held, job_of, under}
 use Rattle.group_jobs.specs.Spots.{times_out}
 use Rattle.local_group.specs.declared.error.OfferError.{OfferError}
 use Rattle.local_group.specs.declared.error.OfferError.TheVariants as offer
@@ -164,36 +164,36 @@ module _ (capacity slot : ℕ) (accepted : List Message) (hand_outs : List HandO
   pub none_waits : (new : Group) → HandsOut old 0 (Ok None) new → drop (length hand_outs) accepted ≡ []
   none_waits new does = nothing does.0
 
-  pub handed_one : (new : Group) (envelope : Held) (identifier : ℕ) → HandsOut old 0 (Ok (Some envelope)) new
+  pub handed_one : (new : Group) (envelope : Held) (subscription : Option ℕ) (identifier : ℕ) → HandsOut old 0 (Ok (Some envelope)) new
       → (drop (length hand_outs) accepted ≡ envelope.message ∷ messages_in new.queue)
-      × ShowsGroup capacity slot accepted (hand_outs ++ handed slot identifier None ∷ []) (entries ++ (identifier, envelope) ∷ []) new
-  handed_one new envelope identifier does =
+      × ShowsGroup capacity slot accepted (hand_outs ++ handed slot subscription identifier None ∷ []) (entries ++ (identifier, under subscription envelope) ∷ []) new
+  handed_one new envelope subscription identifier does =
       let front = does.0 in
       let adds = does.4 in
       let message : envelope.message ≡ front.message = ap (λ (e : Held). e.message) does.2 in
       let job : job_of envelope.stamp ≡ front.job = ap (λ (e : Held). job_of e.stamp) does.2 in
       let waits_first : drop (length hand_outs) accepted ≡ front.message ∷ messages_in new.queue = sym shows.queue ∙ ap messages_in does.1 in
       let parts = drop_cons (length hand_outs) accepted front.message (messages_in new.queue) waits_first in
-      let more = length_push hand_outs (handed slot identifier None) in
-      let jobs : jobs_of (entries ++ (identifier, envelope) ∷ []) ≡ jobs_of entries ++ front.job ∷ [] =
-      map-append (λ (e : ℕ × Held). job_of e.1.stamp) entries ((identifier, envelope) ∷ []) ∙ ap (λ (j : Job). jobs_of entries ++ j ∷ []) job in
-      let good = count_push acknowledges refl hand_outs slot identifier in
-      let bad = count_push refuses refl hand_outs slot identifier in (
+      let more = length_push hand_outs (handed slot subscription identifier None) in
+      let jobs : jobs_of (entries ++ (identifier, under subscription envelope) ∷ []) ≡ jobs_of entries ++ front.job ∷ [] =
+      map-append (λ (e : ℕ × Held). job_of e.1.stamp) entries ((identifier, under subscription envelope) ∷ []) ∙ ap (λ (j : Job). jobs_of entries ++ j ∷ []) job in
+      let good = count_push acknowledges refl hand_outs slot subscription identifier in
+      let bad = count_push refuses refl hand_outs slot subscription identifier in (
         waits_first ∙ ap (λ (m : Message). m ∷ messages_in new.queue) (sym message),
         record {
           numbered = adds.form.slot ∙ shows.numbered;
           fits = adds.form.capacity ∙ shows.fits;
           goes_on = adds.step.made.2 ∙ shows.goes_on;
           counted =
-              subst (λ (n : ℕ). IsCounted (length accepted) n (bad_of (hand_outs ++ handed slot identifier None ∷ [])) (jobs_of (entries ++ (identifier, envelope) ∷ [])) new) (sym good)
-              (subst (λ (n : ℕ). IsCounted (length accepted) (good_of hand_outs) n (jobs_of (entries ++ (identifier, envelope) ∷ [])) new) (sym bad)
+              subst (λ (n : ℕ). IsCounted (length accepted) n (bad_of (hand_outs ++ handed slot subscription identifier None ∷ [])) (jobs_of (entries ++ (identifier, under subscription envelope) ∷ [])) new) (sym good)
+              (subst (λ (n : ℕ). IsCounted (length accepted) (good_of hand_outs) n (jobs_of (entries ++ (identifier, under subscription envelope) ∷ [])) new) (sym bad)
               (subst (λ (js : List Job). IsCounted (length accepted) (good_of hand_outs) (bad_of hand_outs) js new) (sym jobs)
               (hands old new (length accepted) (good_of hand_outs) (bad_of hand_outs) (jobs_of entries) shows.counted front.job adds)));
           order = omega (arith, more, parts.0);
           queue = sym parts.1 ∙ ap (λ (n : ℕ). drop n accepted) (sym more);
           none_returned = does.3 ∙ shows.none_returned;
-          opens = open_push hand_outs slot identifier ∙ ap (λ (l : List ℕ). l ++ identifier ∷ []) shows.opens ∙ sym (map-append (λ (e : ℕ × Held). e.0) entries ((identifier, envelope) ∷ []));
-          ours = all_push (IsOf slot) entries (identifier, envelope) shows.ours (ap (λ (e : Held). e.stamp.group) does.2 ∙ shows.numbered, ap (λ (e : Held). e.place) does.2);
+          opens = open_push hand_outs slot subscription identifier ∙ ap (λ (l : List ℕ). l ++ identifier ∷ []) shows.opens ∙ sym (map-append (λ (e : ℕ × Held). e.0) entries ((identifier, under subscription envelope) ∷ []));
+          ours = all_push (IsOf slot) entries (identifier, under subscription envelope) shows.ours (ap (λ (e : Held). e.stamp.group) does.2 ∙ shows.numbered, ap (λ (e : Held). e.place) does.2);
         },
       )
 

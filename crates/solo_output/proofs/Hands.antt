@@ -5,7 +5,7 @@ use Rattle.std.proofs.lemmas.Bool.{cases_lt}
 use Rattle.std.proofs.lemmas.Option.{none-some}
 use Rattle.mqtt_packet.specs.declared.packet.Packet.{Packet}
 use Rattle.group_jobs.specs.declared.message.Message.{Message}
-use Rattle.group_jobs.specs.Stamps.{Held}
+use Rattle.group_jobs.specs.Stamps.{Held, under}
 use Rattle.member_window.specs.Identifiers.{identifiers, IsLeastFree}
 use Rattle.member_window.specs.Contents.{Contents, held_of, HasRoom, after_put}
 use Rattle.session_desk.specs.declared.session.Membership.{Membership}
@@ -151,7 +151,7 @@ module _ (slot : ℕ) (solo : SoloState) (member : solo.membership ≡ Member sl
 
   found_one : (envelope : Held) (mid : Broker) (place' : GroupPlace) → AsksFor Calls old (first_place slot) (Some envelope) place' mid
       → ((messages : List Message) × (waiting_in slot solo ≡ envelope.message ∷ messages) × (waiting_in slot behind ≡ messages)
-      × ShowsBroker behind (window.owed ++ (next, envelope) ∷ []) mid × (place' ≡ first_place slot) × (mid.desk ≡ old.desk))
+      × ShowsBroker behind (window.owed ++ (next, under solo.subscription envelope) ∷ []) mid × (place' ≡ first_place slot) × (mid.desk ≡ old.desk))
   found_one envelope mid place' (inl found) =
       let call = found.2 in
       absurd
@@ -165,8 +165,8 @@ module _ (slot : ℕ) (solo : SoloState) (member : solo.membership ≡ Member sl
       let hand_outs = handed_in slot solo.handed_out in
       let was : ShowsGroup solo.capacity slot accepted hand_outs window.owed call.0.before =
       subst (λ (l : List (ℕ × Held)). ShowsGroup solo.capacity slot accepted hand_outs l call.0.before) own (kept.groups slot call.0.before call.0.there) in
-      let got = handed_one solo.capacity slot accepted hand_outs window.owed call.0.before was call.0.after envelope next call.0.does in
-      let pushed = handed_in_push_same solo.handed_out slot next in (
+      let got = handed_one solo.capacity slot accepted hand_outs window.owed call.0.before was call.0.after envelope solo.subscription next call.0.does in
+      let pushed = handed_in_push_same solo.handed_out slot solo.subscription next in (
         messages_in call.0.after.queue,
         got.0,
         ap (λ (hs : List HandOut). drop (length hs) accepted) pushed ∙ sym got.1.queue,
@@ -175,44 +175,44 @@ module _ (slot : ℕ) (solo : SoloState) (member : solo.membership ≡ Member sl
           few = shows.few;
           eight = as_many asked.1.groups mid.groups slot _ call.0 ∙ kept.eight;
           groups = in_group asked.1.groups mid.groups slot _
-              (λ other group. ShowsGroup solo.capacity other (accepted_in other solo.groups) (handed_in other behind.handed_out) (entries_at solo.membership other (window.owed ++ (next, envelope) ∷ [])) group)
+              (λ other group. ShowsGroup solo.capacity other (accepted_in other solo.groups) (handed_in other behind.handed_out) (entries_at solo.membership other (window.owed ++ (next, under solo.subscription envelope) ∷ [])) group)
               call.0
               (λ other group differs there.
-              subst (λ (hs : List HandOut). ShowsGroup solo.capacity other (accepted_in other solo.groups) hs (entries_at solo.membership other (window.owed ++ (next, envelope) ∷ [])) group)
-              (sym (handed_in_push_other solo.handed_out slot other next (λ e. differs (sym e))))
+              subst (λ (hs : List HandOut). ShowsGroup solo.capacity other (accepted_in other solo.groups) hs (entries_at solo.membership other (window.owed ++ (next, under solo.subscription envelope) ∷ [])) group)
+              (sym (handed_in_push_other solo.handed_out slot solo.subscription other next (λ e. differs (sym e))))
               (subst (λ (l : List (ℕ × Held)). ShowsGroup solo.capacity other (accepted_in other solo.groups) (handed_in other solo.handed_out) l group)
-              (others other window.owed differs ∙ sym (others other (window.owed ++ (next, envelope) ∷ []) differs)) (kept.groups other group there)))
-              (subst (λ (hs : List HandOut). ShowsGroup solo.capacity slot accepted hs (entries_at solo.membership slot (window.owed ++ (next, envelope) ∷ [])) call.0.after) (sym pushed)
-              (subst (λ (l : List (ℕ × Held)). ShowsGroup solo.capacity slot accepted (hand_outs ++ handed slot next None ∷ []) l call.0.after)
-              (sym (ap (λ (m : Membership ℕ). entries_at m slot (window.owed ++ (next, envelope) ∷ [])) member ∙ entries_same slot (window.owed ++ (next, envelope) ∷ []))) got.1));
+              (others other window.owed differs ∙ sym (others other (window.owed ++ (next, under solo.subscription envelope) ∷ []) differs)) (kept.groups other group there)))
+              (subst (λ (hs : List HandOut). ShowsGroup solo.capacity slot accepted hs (entries_at solo.membership slot (window.owed ++ (next, under solo.subscription envelope) ∷ [])) call.0.after) (sym pushed)
+              (subst (λ (l : List (ℕ × Held)). ShowsGroup solo.capacity slot accepted (hand_outs ++ handed slot solo.subscription next None ∷ []) l call.0.after)
+              (sym (ap (λ (m : Membership ℕ). entries_at m slot (window.owed ++ (next, under solo.subscription envelope) ∷ [])) member ∙ entries_same slot (window.owed ++ (next, under solo.subscription envelope) ∷ []))) got.1));
         },
         call.1,
         call.2.desk ∙ back.2.desk,
       )
 
-  pub sends_one : (packet : Packet) (mid : Broker) (window' : Contents Held) (place' : GroupPlace) → SendsOne Calls old (first_place slot) window packet place' window' mid
-      → ((message : Message) × (due slot solo ≡ message ∷ due slot behind) × (packet ≡ job false message next)
+  pub sends_one : (packet : Packet) (mid : Broker) (window' : Contents Held) (place' : GroupPlace) → SendsOne Calls solo.subscription old (first_place slot) window packet place' window' mid
+      → ((message : Message) × (due slot solo ≡ message ∷ due slot behind) × (packet ≡ job false message solo.subscription next)
       × ShowsBroker behind window'.owed mid × ShowsWindow behind window' × (place' ≡ first_place slot) × (mid.desk ≡ old.desk))
   sends_one packet mid window' place' does =
       let all_owed : held_of window ≡ window.owed = ap (λ (l : List (ℕ × Held)). window.owed ++ l) holds.none_waits ∙ append-nil window.owed in
       let used : identifiers (held_of window) ≡ unacknowledged solo = ap identifiers all_owed ∙ sym holds.opens in
       let free : IsLeastFree (unacknowledged solo) does.identifier = subst (λ (l : List ℕ). IsLeastFree l does.identifier) used does.free in
       let is_next : does.identifier ≡ next = sym (least_is (unacknowledged solo) does.identifier free) in
-      let put : window' ≡ after_put window next does.envelope = does.put ∙ ap (λ (n : ℕ). after_put window n does.envelope) is_next in
+      let put : window' ≡ after_put window next (under solo.subscription does.envelope) = does.put ∙ ap (λ (n : ℕ). after_put window n (under solo.subscription does.envelope)) is_next in
       let found = found_one does.envelope mid place' does.asked in
-      let more : length (unacknowledged behind) ≡ length (unacknowledged solo) + 1 = ap length (open_push solo.handed_out slot next) ∙ length_push (unacknowledged solo) next in
+      let more : length (unacknowledged behind) ≡ length (unacknowledged solo) + 1 = ap length (open_push solo.handed_out slot solo.subscription next) ∙ length_push (unacknowledged solo) next in
       let room = has_quota does.room in
       let left : quota solo - length (unacknowledged solo) ≡ suc (quota behind - length (unacknowledged behind)) = omega (arith, more, room) in (
         does.envelope.message,
         (λ i. take (left i) (found.1 i)) ∙ ap (λ (l : List Message). does.envelope.message ∷ take (quota behind - length (unacknowledged behind)) l) (sym found.2),
-        does.sent ∙ ap (job false does.envelope.message) is_next,
+        does.sent ∙ ap (job false does.envelope.message solo.subscription) is_next,
         subst (λ (w : Contents Held). ShowsBroker behind w.owed mid) (sym put) found.3,
         subst (ShowsWindow behind) (sym put) (record {
           none_waits = holds.none_waits;
           quota_is = holds.quota_is;
           opens =
-              open_push solo.handed_out slot next ∙ ap (λ (l : List ℕ). l ++ next ∷ []) holds.opens
-              ∙ sym (map-append (λ (e : ℕ × Held). e.0) window.owed ((next, does.envelope) ∷ []));
+              open_push solo.handed_out slot solo.subscription next ∙ ap (λ (l : List ℕ). l ++ next ∷ []) holds.opens
+              ∙ sym (map-append (λ (e : ℕ × Held). e.0) window.owed ((next, under solo.subscription does.envelope) ∷ []));
           not_ending = holds.not_ending;
         }),
         found.4,
@@ -220,13 +220,13 @@ module _ (slot : ℕ) (solo : SoloState) (member : solo.membership ≡ Member sl
       )
 
 pub sends_fresh : (packets : List Packet) (slot : ℕ) (solo : SoloState) → solo.membership ≡ Member slot → (window : Contents Held) (old : Broker) → ShowsBroker solo window.owed old → ShowsWindow solo window
-    → (place' : GroupPlace) (window' : Contents Held) (new : Broker) → SendsFresh Calls old (first_place slot) window packets place' window' new
+    → (place' : GroupPlace) (window' : Contents Held) (new : Broker) → SendsFresh Calls solo.subscription old (first_place slot) window packets place' window' new
     → Delivers (hand_out slot (due slot solo) solo) slot old packets place' window' new
 sends_fresh [] slot solo member window old shows holds place' window' new does = sends_none slot solo member window old shows holds new window' place' does
 sends_fresh (packet ∷ packets) slot solo member window old shows holds place' window' new does =
     let one = sends_one slot solo member window old shows holds packet does.2 does.1 does.0 does.3 in
     let later = with_hand_out slot (least_free (unacknowledged solo)) solo in
-    let again = subst (λ (p : GroupPlace). SendsFresh Calls does.2 p does.1 packets place' window' new) one.5 does.4 in
+    let again = subst (λ (p : GroupPlace). SendsFresh Calls solo.subscription does.2 p does.1 packets place' window' new) one.5 does.4 in
     let rest = sends_fresh packets slot later member does.1 does.2 one.3 one.4 place' window' new again in
     subst (λ (messages : List Message). Delivers (hand_out slot messages solo) slot old (packet ∷ packets) place' window' new) (sym one.1)
     (record {

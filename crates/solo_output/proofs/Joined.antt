@@ -98,18 +98,20 @@ found_slot slot (Some other) is = ap (λ (n : ℕ). Some n) (eqb-true other slot
 pub record Follows (one two : SoloState) : Type 0 where
   pub phase : two.phase ≡ one.phase
   pub terms : two.terms ≡ one.terms
+  pub subscription : two.subscription ≡ one.subscription
   pub handed : two.handed_out ≡ one.handed_out
   pub later : List Share
   pub grows : shares_of two.groups ≡ shares_of one.groups ++ later
 
 follows_as : (membership : Membership ℕ) (solo : SoloState) → Follows solo (with_membership membership solo)
-follows_as membership solo = record { phase = refl; terms = refl; handed = refl; later = []; grows = sym (append-nil (shares_of solo.groups)) }
+follows_as membership solo = record { phase = refl; terms = refl; subscription = refl; handed = refl; later = []; grows = sym (append-nil (shares_of solo.groups)) }
 
 follows_both : (one two three : SoloState) → Follows one two → Follows two three → Follows one three
 follows_both one two three first' next =
     record {
       phase = next.phase ∙ first'.phase;
       terms = next.terms ∙ first'.terms;
+      subscription = next.subscription ∙ first'.subscription;
       handed = next.handed ∙ first'.handed;
       later = first'.later ++ next.later;
       grows = next.grows ∙ ap (λ (l : List Share). l ++ next.later) first'.grows ∙ append_assoc (shares_of one.groups) first'.later next.later;
@@ -143,9 +145,8 @@ share_fits false (Ok share) text is = λ e. absurd (omega (arith, e))
 share_fits true (Err refusal) text is = refused_fits refusal text
 share_fits false (Err refusal) text is = refused_fits refusal text
 
-answer_fits : (identified : Bool) (entry : Subscription) (terms : Terms) → Fits entry.filter (entry_answer identified entry terms)
-answer_fits true entry terms = λ e. absurd (omega (arith, e))
-answer_fits false entry terms = share_fits _ (share_of entry.filter) entry.filter refl
+answer_fits : (entry : Subscription) (terms : Terms) → Fits entry.filter (entry_answer entry terms)
+answer_fits entry terms = share_fits _ (share_of entry.filter) entry.filter refl
 
 -- the client is a member of its group
 record Enters (text : List ℕ) (one two : SoloState) : Type 0 where
@@ -178,7 +179,7 @@ entered None share solo found is =
     cond_both (nat_lt slot most_routes) (coded 1 behind) (coded 0x97 solo) (EntryIs share.text solo)
     (λ room.
     record {
-      follows = record { phase = refl; terms = refl; handed = refl; later = share ∷ []; grows = grows };
+      follows = record { phase = refl; terms = refl; subscription = refl; handed = refl; later = share ∷ []; grows = grows };
       does = inl (
         refl,
         record {
@@ -253,6 +254,7 @@ pub record AllJoin (filters : List (List ℕ)) (one : SoloState) (all : AllCoded
   pub stays : (slot : ℕ) → one.membership ≡ Member slot → all.solo.membership ≡ Member slot
   pub stays_in : (slot : ℕ) → IsInGroup one.membership slot → IsInGroup all.solo.membership slot
   pub leaving : (slot : ℕ) → all.solo.membership ≡ Leaving slot → one.membership ≡ Leaving slot
+  pub granted : (place : ℕ) → slice_get all.codes place ≡ Some 1 → (slot : ℕ) × HasCode filters all.codes 1 slot (shares_of all.solo.groups)
 
 abbrev pub filters_of : List Subscription → List (List ℕ)
 filters_of subscriptions = map (λ entry. entry.filter) subscriptions
@@ -282,6 +284,15 @@ module _ (text : List ℕ) (filters : List (List ℕ)) (solo : SoloState) (one :
       later.stays slot (enters.now ∙ ap (λ (n : ℕ). Member n) same)
   joins_at (suc place) slot filter asked told its = later.joins place slot filter asked told its
 
+  granted_at : (place : ℕ) → slice_get (one.code ∷ rest.codes) place ≡ Some 1 → (slot : ℕ) × HasCode (text ∷ filters) (one.code ∷ rest.codes) 1 slot (shares_of rest.solo.groups)
+  granted_at zero told =
+      let is_one = same_Some one.code 1 told in
+      let enters = entry_joins text solo one is is_one in
+      (enters.slot, at_first enters.slot is_one enters.its)
+  granted_at (suc place) told =
+      let has = later.granted place told in
+      (has.0, one_more text filters one.code rest.codes 1 has.0 (shares_of rest.solo.groups) has.1)
+
   first_joins : AllJoin (text ∷ filters) solo (coded_first one.code rest)
   first_joins =
       record {
@@ -295,10 +306,11 @@ module _ (text : List ℕ) (filters : List (List ℕ)) (solo : SoloState) (one :
         stays = λ slot was. later.stays slot (entry_stays text solo one is slot was);
         stays_in = λ slot was. later.stays_in slot (entry_stays_in text solo one is slot was);
         leaving = λ slot now. entry_leaving text solo one is slot (later.leaving slot now);
+        granted = granted_at;
       }
 
-pub all_join : (identified : Bool) (subscriptions : List Subscription) (solo : SoloState) → AllJoin (filters_of subscriptions) solo (join_all identified subscriptions solo)
-all_join identified [] solo =
+pub all_join : (subscriptions : List Subscription) (solo : SoloState) → AllJoin (filters_of subscriptions) solo (join_all subscriptions solo)
+all_join [] solo =
     record {
       follows = follows_as solo.membership solo;
       joins = λ place slot filter asked told its. absurd (none_there place filter asked);
@@ -306,16 +318,17 @@ all_join identified [] solo =
       stays = λ slot was. was;
       stays_in = λ slot was. was;
       leaving = λ slot now. now;
+      granted = λ place told. absurd (none_there place 1 told);
     }
-all_join identified (entry ∷ others) solo =
-    let one = entry_reply (entry_answer identified entry solo.terms) solo in
-    first_joins entry.filter (filters_of others) solo one (entry_is entry.filter (entry_answer identified entry solo.terms) solo (answer_fits identified entry solo.terms))
-    (join_all identified others one.solo) (all_join identified others one.solo)
+all_join (entry ∷ others) solo =
+    let one = entry_reply (entry_answer entry solo.terms) solo in
+    first_joins entry.filter (filters_of others) solo one (entry_is entry.filter (entry_answer entry solo.terms) solo (answer_fits entry solo.terms))
+    (join_all others one.solo) (all_join others one.solo)
 
 -- ---- who is served
 
-text_of : (identified : Bool) (entry : Subscription) (terms : Terms) (share : Share) → entry_answer identified entry terms ≡ entries.Join share → share.text ≡ entry.filter
-text_of identified entry terms share served = subst (Fits entry.filter) served (answer_fits identified entry terms)
+text_of : (entry : Subscription) (terms : Terms) (share : Share) → entry_answer entry terms ≡ entries.Join share → share.text ≡ entry.filter
+text_of entry terms share served = subst (Fits entry.filter) served (answer_fits entry terms)
 
 stays_told : (membership : Membership ℕ) (share : Share) (solo : SoloState) (slot : ℕ) → IsInGroup membership slot → slot_of share.text (shares_of solo.groups) ≡ Some slot
     → (join_as membership (slot_of share.text (shares_of solo.groups)) share solo).code ≡ 1
@@ -336,54 +349,54 @@ enters_told None share solo (inr room) =
     let slot = length solo.groups in
     ap (λ (b : Bool). (cond b (coded 1 (with_membership (Member slot) (with_share share solo))) (coded 0x97 solo)).code) (lt-ltb slot most_routes room)
 
-module _ (identified : Bool) (share : Share) where
-  pub serves_own : (subscriptions : List Subscription) (solo : SoloState) (place slot : ℕ) (entry : Subscription) → slice_get subscriptions place ≡ Some entry → entry_answer identified entry solo.terms ≡ entries.Join share
-      → IsInGroup solo.membership slot → slot_of share.text (shares_of solo.groups) ≡ Some slot → let all = join_all identified subscriptions solo in HasCode (filters_of subscriptions) all.codes 1 slot (shares_of all.solo.groups)
+module _ (share : Share) where
+  pub serves_own : (subscriptions : List Subscription) (solo : SoloState) (place slot : ℕ) (entry : Subscription) → slice_get subscriptions place ≡ Some entry → entry_answer entry solo.terms ≡ entries.Join share
+      → IsInGroup solo.membership slot → slot_of share.text (shares_of solo.groups) ≡ Some slot → let all = join_all subscriptions solo in HasCode (filters_of subscriptions) all.codes 1 slot (shares_of all.solo.groups)
   serves_own [] solo place slot entry asked served in_ found = absurd (none_there place entry asked)
   serves_own (first' ∷ others) solo zero slot entry asked served in_ found =
-      let answer = entry_answer identified first' solo.terms in
+      let answer = entry_answer first' solo.terms in
       let one = entry_reply answer solo in
       let same = same_Some first' entry asked in
       let told : one.code ≡ 1 =
-      ap (λ (e : Subscription). (entry_reply (entry_answer identified e solo.terms) solo).code) same ∙ ap (λ (a : EntryAnswer). (entry_reply a solo).code) served ∙ stays_told solo.membership share solo slot in_ found in
-      let text_is : share.text ≡ first'.filter = text_of identified entry solo.terms share served ∙ ap (λ (e : Subscription). e.filter) (sym same) in
-      let is = entry_is first'.filter answer solo (answer_fits identified first' solo.terms) in
-      at_first first'.filter (filters_of others) solo one is (join_all identified others one.solo) (all_join identified others one.solo) slot told
+      ap (λ (e : Subscription). (entry_reply (entry_answer e solo.terms) solo).code) same ∙ ap (λ (a : EntryAnswer). (entry_reply a solo).code) served ∙ stays_told solo.membership share solo slot in_ found in
+      let text_is : share.text ≡ first'.filter = text_of entry solo.terms share served ∙ ap (λ (e : Subscription). e.filter) (sym same) in
+      let is = entry_is first'.filter answer solo (answer_fits first' solo.terms) in
+      at_first first'.filter (filters_of others) solo one is (join_all others one.solo) (all_join others one.solo) slot told
       (slot_still solo one.solo first'.filter slot is.follows (ap (λ (t : List ℕ). slot_of t (shares_of solo.groups)) (sym text_is) ∙ found))
   serves_own (first' ∷ others) solo (suc place) slot entry asked served in_ found =
-      let answer = entry_answer identified first' solo.terms in
+      let answer = entry_answer first' solo.terms in
       let one = entry_reply answer solo in
-      let is = entry_is first'.filter answer solo (answer_fits identified first' solo.terms) in
-      let rest = join_all identified others one.solo in
+      let is = entry_is first'.filter answer solo (answer_fits first' solo.terms) in
+      let rest = join_all others one.solo in
       one_more first'.filter (filters_of others) one.code rest.codes 1 slot (shares_of rest.solo.groups)
-      (serves_own others one.solo place slot entry asked (ap (λ (t : Terms). entry_answer identified entry t) is.follows.terms ∙ served)
+      (serves_own others one.solo place slot entry asked (ap (λ (t : Terms). entry_answer entry t) is.follows.terms ∙ served)
       (entry_stays_in first'.filter solo one is slot in_) (slot_still solo one.solo share.text slot is.follows found))
 
-  pub serves_free : (subscriptions : List Subscription) (solo : SoloState) (place : ℕ) (entry : Subscription) → slice_get subscriptions place ≡ Some entry → entry_answer identified entry solo.terms ≡ entries.Join share
-      → solo.membership ≡ NotMember → HasSlot share solo → let all = join_all identified subscriptions solo in (slot : ℕ) × HasCode (filters_of subscriptions) all.codes 1 slot (shares_of all.solo.groups)
+  pub serves_free : (subscriptions : List Subscription) (solo : SoloState) (place : ℕ) (entry : Subscription) → slice_get subscriptions place ≡ Some entry → entry_answer entry solo.terms ≡ entries.Join share
+      → solo.membership ≡ NotMember → HasSlot share solo → let all = join_all subscriptions solo in (slot : ℕ) × HasCode (filters_of subscriptions) all.codes 1 slot (shares_of all.solo.groups)
   serves_free [] solo place entry asked served none has = absurd (none_there place entry asked)
   serves_free (first' ∷ others) solo zero entry asked served none has =
-      let answer = entry_answer identified first' solo.terms in
+      let answer = entry_answer first' solo.terms in
       let one = entry_reply answer solo in
       let told : one.code ≡ 1 =
-      ap (λ (e : Subscription). (entry_reply (entry_answer identified e solo.terms) solo).code) (same_Some first' entry asked)
+      ap (λ (e : Subscription). (entry_reply (entry_answer e solo.terms) solo).code) (same_Some first' entry asked)
       ∙ ap (λ (a : EntryAnswer). (entry_reply a solo).code) served
       ∙ ap (λ (m : Membership ℕ). (join_as m (slot_of share.text (shares_of solo.groups)) share solo).code) none
       ∙ enters_told (slot_of share.text (shares_of solo.groups)) share solo has in
-      let is = entry_is first'.filter answer solo (answer_fits identified first' solo.terms) in
+      let is = entry_is first'.filter answer solo (answer_fits first' solo.terms) in
       let enters = entry_joins first'.filter solo one is told in
-      (enters.slot, at_first first'.filter (filters_of others) solo one is (join_all identified others one.solo) (all_join identified others one.solo) enters.slot told enters.its)
+      (enters.slot, at_first first'.filter (filters_of others) solo one is (join_all others one.solo) (all_join others one.solo) enters.slot told enters.its)
   serves_free (first' ∷ others) solo (suc place) entry asked served none has =
-      let answer = entry_answer identified first' solo.terms in
+      let answer = entry_answer first' solo.terms in
       let one = entry_reply answer solo in
-      let is = entry_is first'.filter answer solo (answer_fits identified first' solo.terms) in
-      let rest = join_all identified others one.solo in
+      let is = entry_is first'.filter answer solo (answer_fits first' solo.terms) in
+      let rest = join_all others one.solo in
       ⊎_elim
       (λ (enters : (one.code ≡ 1) × Enters first'.filter solo one.solo).
-      (enters.1.slot, at_first first'.filter (filters_of others) solo one is rest (all_join identified others one.solo) enters.1.slot enters.0 enters.1.its))
+      (enters.1.slot, at_first first'.filter (filters_of others) solo one is rest (all_join others one.solo) enters.1.slot enters.0 enters.1.its))
       (λ (not_first : (one.code ≢ 1) × (one.solo ≡ solo)).
       let later =
-      serves_free others one.solo place entry asked (ap (λ (t : Terms). entry_answer identified entry t) is.follows.terms ∙ served) (ap (λ (s : SoloState). s.membership) not_first.1 ∙ none)
+      serves_free others one.solo place entry asked (ap (λ (t : Terms). entry_answer entry t) is.follows.terms ∙ served) (ap (λ (s : SoloState). s.membership) not_first.1 ∙ none)
       (subst (HasSlot share) (sym not_first.1) has) in
       (later.0, one_more first'.filter (filters_of others) one.code rest.codes 1 later.0 (shares_of rest.solo.groups) later.1))
       is.does

@@ -75,14 +75,14 @@ leaving_own : (membership : Membership ℕ) (slot : ℕ) (hand_out : HandOut) �
 leaving_own membership slot hand_out is its none = subst (λ (m : Membership ℕ). IsInGroup m hand_out.slot) is (its none)
 
 -- where nothing is unacknowledged, all hand-outs have a code
-none_first : (membership : Membership ℕ) (slot identifier : ℕ) (code : Option ℕ) (hand_outs : List HandOut) → open_identifiers (handed slot identifier code ∷ hand_outs) ≡ []
-    → (open_identifiers hand_outs ≡ [] → AllByRecursion (IsOwn membership) hand_outs) → AllByRecursion (IsOwn membership) (handed slot identifier code ∷ hand_outs)
-none_first membership slot identifier None hand_outs none later = absurd cc
-none_first membership slot identifier (Some code) hand_outs none later = (λ e. absurd cc, later none)
+none_first : (membership : Membership ℕ) (slot : ℕ) (subscription : Option ℕ) (identifier : ℕ) (code : Option ℕ) (hand_outs : List HandOut) → open_identifiers (handed slot subscription identifier code ∷ hand_outs) ≡ []
+    → (open_identifiers hand_outs ≡ [] → AllByRecursion (IsOwn membership) hand_outs) → AllByRecursion (IsOwn membership) (handed slot subscription identifier code ∷ hand_outs)
+none_first membership slot subscription identifier None hand_outs none later = absurd cc
+none_first membership slot subscription identifier (Some code) hand_outs none later = (λ e. absurd cc, later none)
 
 none_open : (membership : Membership ℕ) (hand_outs : List HandOut) → open_identifiers hand_outs ≡ [] → AllByRecursion (IsOwn membership) hand_outs
 none_open membership [] none = tt
-none_open membership (h ∷ hand_outs) none = none_first membership h.slot h.identifier h.code hand_outs none (λ e. none_open membership hand_outs e)
+none_open membership (h ∷ hand_outs) none = none_first membership h.slot h.subscription h.identifier h.code hand_outs none (λ e. none_open membership hand_outs e)
 
 -- ---- a message is accepted
 
@@ -176,13 +176,13 @@ kept_handing slot message rest solo connected member less waits k =
     let used = unacknowledged solo in
     let next = least_free used in
     let behind = with_hand_out slot next solo in
-    let opens : unacknowledged behind ≡ used ++ next ∷ [] = open_push solo.handed_out slot next in
+    let opens : unacknowledged behind ≡ used ++ next ∷ [] = open_push solo.handed_out slot solo.subscription next in
     let least = is_least used in
     let some : length (waiting_in slot solo) ≡ suc (length rest) = ap length waits in
     let many = λ (s : SoloState). λ (at : ℕ). length-drop (length (handed_in at s.handed_out)) (accepted_in at s.groups) in
     let one_more : length (handed_in slot behind.handed_out) ≡ length (handed_in slot solo.handed_out) + 1 =
-    ap length (handed_in_push_same solo.handed_out slot next) ∙ length_push (handed_in slot solo.handed_out) (handed slot next None) in
-    let others : (at : ℕ) → at ≢ slot → length (handed_in at behind.handed_out) ≡ length (handed_in at solo.handed_out) = λ at other. ap length (handed_in_push_other solo.handed_out slot at next (λ e. other (sym e))) in
+    ap length (handed_in_push_same solo.handed_out slot solo.subscription next) ∙ length_push (handed_in slot solo.handed_out) (handed slot solo.subscription next None) in
+    let others : (at : ℕ) → at ≢ slot → length (handed_in at behind.handed_out) ≡ length (handed_in at solo.handed_out) = λ at other. ap length (handed_in_push_other solo.handed_out slot solo.subscription at next (λ e. other (sym e))) in
     record {
       small = subst (AllByRecursion IsSmall) (sym opens) (all_push IsSmall used next k.small (least.not_zero, omega (arith, least_small used, less)));
       distinct = subst AreDistinct (sym opens) (distinct_push used next k.distinct least.free);
@@ -199,7 +199,7 @@ kept_handing slot message rest solo connected member less waits k =
           (λ (is : at ≡ slot). subst (λ (n : ℕ). length (waiting_in n behind) ≤ solo.capacity) (sym is) (omega (arith, one_more, some, many solo slot, many behind slot, k.fits slot)))
           (λ (other : at ≢ slot). omega (arith, others at other, many solo at, many behind at, k.fits at))
           (cases_eq at slot);
-      own = all_push (IsOwn solo.membership) solo.handed_out (handed slot next None) k.own (λ none. subst (λ (m : Membership ℕ). IsInGroup m slot) (sym member) refl);
+      own = all_push (IsOwn solo.membership) solo.handed_out (handed slot solo.subscription next None) k.own (λ none. subst (λ (m : Membership ℕ). IsInGroup m slot) (sym member) refl);
       bound = k.bound;
     }
 
@@ -232,6 +232,7 @@ keeps =
       leaves = λ slot solo is. kept_as (Leaving slot) solo (λ hand_out. leaving_own solo.membership slot hand_out is) (λ k at in_. k.bound at (subst (λ (m : Membership ℕ). IsInGroup m at) (sym is) in_));
       parts = λ slot solo is none k.
           record { small = k.small; distinct = k.distinct; room = k.room; fresh = k.fresh; order = k.order; lives = k.lives; fits = k.fits; own = none_open NotMember solo.handed_out none; bound = λ slot in_. absurd in_ };
+      subscribes = λ subscription solo k. record { small = k.small; distinct = k.distinct; room = k.room; fresh = k.fresh; order = k.order; lives = k.lives; fits = k.fits; own = k.own; bound = k.bound };
     }
 
 pub kept_replying : (packet : Packet) (solo : SoloState) → Kept solo → Kept (reply packet solo).solo

@@ -17,7 +17,7 @@ use Rattle.solo_output.proofs.Lists.{handed}
 use Rattle.solo_output.proofs.Moves.{Ways, hands_out, delivered, ran}
 
 pub still : (one : HandOut) → IsStill one one
-still one = record { slot = refl; identifier = refl; for_good = λ code is. is }
+still one = record { slot = refl; subscription = refl; identifier = refl; for_good = λ code is. is }
 
 -- ---- a hand-out that was there is there
 
@@ -35,6 +35,7 @@ lasts =
             last.1,
             record {
               slot = last.2.slot ∙ behind.2.slot;
+              subscription = last.2.subscription ∙ behind.2.subscription;
               identifier = last.2.identifier ∙ behind.2.identifier;
               for_good = λ code is. last.2.for_good code (behind.2.for_good code is);
             },
@@ -46,21 +47,22 @@ lasts =
       joins = λ slot solo may within place hand_out there. (hand_out, there, still hand_out);
       leaves = λ slot solo is place hand_out there. (hand_out, there, still hand_out);
       parts = λ slot solo is none place hand_out there. (hand_out, there, still hand_out);
+      subscribes = λ subscription solo place hand_out there. (hand_out, there, still hand_out);
     }
 
-settled_as : (identifier code slot own : ℕ) (was : Option ℕ) → IsStill (handed slot own was) (settled identifier code (handed slot own was))
-settled_as identifier code slot own (Some is) = still (handed slot own (Some is))
-settled_as identifier code slot own None =
+settled_as : (identifier code slot : ℕ) (subscription : Option ℕ) (own : ℕ) (was : Option ℕ) → IsStill (handed slot subscription own was) (settled identifier code (handed slot subscription own was))
+settled_as identifier code slot subscription own (Some is) = still (handed slot subscription own (Some is))
+settled_as identifier code slot subscription own None =
     ⊎_elim
-    (λ (same : (own == identifier) ≡ true). subst (λ (b : Bool). IsStill (handed slot own None) (cond b (handed slot own (Some code)) (handed slot own None))) (sym same) (record { slot = refl; identifier = refl; for_good = λ other is. absurd cc }))
-    (λ (differs : (own == identifier) ≡ false). subst (λ (b : Bool). IsStill (handed slot own None) (cond b (handed slot own (Some code)) (handed slot own None))) (sym differs) (still (handed slot own None)))
+    (λ (same : (own == identifier) ≡ true). subst (λ (b : Bool). IsStill (handed slot subscription own None) (cond b (handed slot subscription own (Some code)) (handed slot subscription own None))) (sym same) (record { slot = refl; subscription = refl; identifier = refl; for_good = λ other is. absurd cc }))
+    (λ (differs : (own == identifier) ≡ false). subst (λ (b : Bool). IsStill (handed slot subscription own None) (cond b (handed slot subscription own (Some code)) (handed slot subscription own None))) (sym differs) (still (handed slot subscription own None)))
     (cases_Bool (own == identifier))
 
 lasts_settling : (identifier code : ℕ) (solo : SoloState) → Lasts solo (with_puback identifier code solo)
 lasts_settling identifier code solo place hand_out there = (
   settled identifier code hand_out,
   slice_get-map (settled identifier code) solo.handed_out place ∙ ap (option_map (settled identifier code)) there,
-  settled_as identifier code hand_out.slot hand_out.identifier hand_out.code,
+  settled_as identifier code hand_out.slot hand_out.subscription hand_out.identifier hand_out.code,
 )
 
 lasts_pushing : (one : HandOut) (hand_outs : List HandOut) (place : ℕ) (hand_out : HandOut) → slice_get hand_outs place ≡ Some hand_out → slice_get (hand_outs ++ one ∷ []) place ≡ Some hand_out
@@ -72,7 +74,7 @@ lasts_one : (slot : ℕ) (message : Message) (rest : List Message) (solo : SoloS
     → Lasts solo (with_hand_out slot (least_free (unacknowledged solo)) solo)
 lasts_one slot message rest solo connected member less waits place hand_out there = (
   hand_out,
-  lasts_pushing (handed slot (least_free (unacknowledged solo)) None) solo.handed_out place hand_out there,
+  lasts_pushing (handed slot solo.subscription (least_free (unacknowledged solo)) None) solo.handed_out place hand_out there,
   still hand_out,
 )
 
@@ -101,10 +103,11 @@ appends =
       joins = λ slot solo may within. ([], sym (append-nil solo.handed_out));
       leaves = λ slot solo is. ([], sym (append-nil solo.handed_out));
       parts = λ slot solo is none. ([], sym (append-nil solo.handed_out));
+      subscribes = λ subscription solo. ([], sym (append-nil solo.handed_out));
     }
 
 pub appends_handing : (slot : ℕ) (messages : List Message) (solo : SoloState) → solo.phase ≡ Connected → solo.membership ≡ Member slot → messages ≡ due slot solo → Appends solo (hand_out slot messages solo).solo
-appends_handing = hands_out Appends appends (λ slot message rest solo connected member less waits. (handed slot (least_free (unacknowledged solo)) None ∷ [], refl))
+appends_handing = hands_out Appends appends (λ slot message rest solo connected member less waits. (handed slot solo.subscription (least_free (unacknowledged solo)) None ∷ [], refl))
 
 -- ---- a PUBACK settles the one that is unacknowledged under its identifier
 
@@ -121,15 +124,15 @@ settles_its identifier code hand_outs place hand_out there none its =
 abbrev pub WasOrEventIsAnswered : ℕ → ℕ → ℕ → ℕ → HandOut → Type 0
 WasOrEventIsAnswered identifier code place told one = (one.code ≡ Some told) ⊎ ((one.code ≡ None) × (identifier ≡ one.identifier) × (code ≡ told))
 
-came_as : (identifier code place told slot own : ℕ) (was : Option ℕ) → (settled identifier code (handed slot own was)).code ≡ Some told → WasOrEventIsAnswered identifier code place told (handed slot own was)
-came_as identifier code place told slot own (Some is) e = inl e
-came_as identifier code place told slot own None e =
+came_as : (identifier code place told slot : ℕ) (subscription : Option ℕ) (own : ℕ) (was : Option ℕ) → (settled identifier code (handed slot subscription own was)).code ≡ Some told → WasOrEventIsAnswered identifier code place told (handed slot subscription own was)
+came_as identifier code place told slot subscription own (Some is) e = inl e
+came_as identifier code place told slot subscription own None e =
     ⊎_elim
     (λ (same : (own == identifier) ≡ true).
-    let told_so : Some code ≡ Some told = ap (λ (b : Bool). (cond b (handed slot own (Some code)) (handed slot own None)).code) (sym same) ∙ e in
+    let told_so : Some code ≡ Some told = ap (λ (b : Bool). (cond b (handed slot subscription own (Some code)) (handed slot subscription own None)).code) (sym same) ∙ e in
     inr (refl, sym (eqb-true own identifier same), cc))
     (λ (differs : (own == identifier) ≡ false).
-    inl (ap (λ (b : Bool). (cond b (handed slot own (Some code)) (handed slot own None)).code) (sym differs) ∙ e))
+    inl (ap (λ (b : Bool). (cond b (handed slot subscription own (Some code)) (handed slot subscription own None)).code) (sym differs) ∙ e))
     (cases_Bool (own == identifier))
 
 -- a place of the list after is one of the list before
@@ -144,16 +147,16 @@ pub came_from : (identifier code : ℕ) (hand_outs : List HandOut) (place told :
     → (one : HandOut) × (slice_get hand_outs place ≡ Some one) × WasOrEventIsAnswered identifier code place told one
 came_from identifier code hand_outs place told other there is =
     let one = before_map (settled identifier code) hand_outs place other there in
-    (one.0, one.1, came_as identifier code place told one.0.slot one.0.identifier one.0.code (ap (λ (h : HandOut). h.code) one.2 ∙ is))
+    (one.0, one.1, came_as identifier code place told one.0.slot one.0.subscription one.0.identifier one.0.code (ap (λ (h : HandOut). h.code) one.2 ∙ is))
 
 -- a further hand-out has none
-pub coded_before : (slot identifier : ℕ) (hand_outs : List HandOut) (place told : ℕ) (other : HandOut) → slice_get (hand_outs ++ handed slot identifier None ∷ []) place ≡ Some other → other.code ≡ Some told
+pub coded_before : (slot : ℕ) (subscription : Option ℕ) (identifier : ℕ) (hand_outs : List HandOut) (place told : ℕ) (other : HandOut) → slice_get (hand_outs ++ handed slot subscription identifier None ∷ []) place ≡ Some other → other.code ≡ Some told
     → slice_get hand_outs place ≡ Some other
-coded_before slot identifier hand_outs place told other there is =
+coded_before slot subscription identifier hand_outs place told other there is =
     ⊎_elim
     (λ (last : place ≡ length hand_outs).
-    let new : handed slot identifier None ≡ other =
-    same_Some (handed slot identifier None) other (sym (slice_get-push_same hand_outs (handed slot identifier None)) ∙ ap (slice_get (hand_outs ++ handed slot identifier None ∷ [])) (sym last) ∙ there) in
+    let new : handed slot subscription identifier None ≡ other =
+    same_Some (handed slot subscription identifier None) other (sym (slice_get-push_same hand_outs (handed slot subscription identifier None)) ∙ ap (slice_get (hand_outs ++ handed slot subscription identifier None ∷ [])) (sym last) ∙ there) in
     absurd (none-some told (ap (λ (h : HandOut). h.code) new ∙ is)))
-    (λ (earlier : place ≢ length hand_outs). sym (slice_get-push_other hand_outs place (handed slot identifier None) earlier) ∙ there)
+    (λ (earlier : place ≢ length hand_outs). sym (slice_get-push_other hand_outs place (handed slot subscription identifier None) earlier) ∙ there)
     (cases_eq place (length hand_outs))

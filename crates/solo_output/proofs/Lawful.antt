@@ -49,6 +49,7 @@ holds_as_much =
       joins = λ slot solo may within. refl;
       leaves = λ slot solo is. refl;
       parts = λ slot solo is none. refl;
+      subscribes = λ subscription solo. refl;
     }
 
 pub fits_all : (setup : Setup) (packets : List Packet) (slot : ℕ) → length (waiting_in slot (run_of setup packets).solo) ≤ setup.capacity
@@ -121,7 +122,7 @@ settles_one solo puback place one connected there none its =
     let last = lasts_delivering r place (record one { code = Some puback.reason_code }) replied in (
       last.0,
       last.1,
-      record { slot = last.2.slot; identifier = last.2.identifier; for_good = λ code is. absurd (none-some code (sym none ∙ is)) },
+      record { slot = last.2.slot; subscription = last.2.subscription; identifier = last.2.identifier; for_good = λ code is. absurd (none-some code (sym none ∙ is)) },
       last.2.for_good puback.reason_code refl,
     )
 
@@ -251,6 +252,7 @@ asks_the_same =
       joins = λ slot solo may within begun. (begun, refl);
       leaves = λ slot solo is begun. (begun, refl);
       parts = λ slot solo is none begun. (begun, refl);
+      subscribes = λ subscription solo begun. (begun, refl);
     }
 
 asked_ran : (packets : List Packet) (solo : SoloState) → AsksTheSame solo (solo_steps packets solo).solo

@@ -47,6 +47,7 @@ leave_is text solo = leave_is_as text solo.membership (share_of text) solo refl 
 pub record AllLeave (filters : List (List ℕ)) (one : SoloState) (all : AllCoded) : Type 0 where
   pub phase : all.solo.phase ≡ one.phase
   pub groups : all.solo.groups ≡ one.groups
+  pub subscription : all.solo.subscription ≡ one.subscription
   pub leaves : (place slot : ℕ) (filter : List ℕ) → slice_get filters place ≡ Some filter → slice_get all.codes place ≡ Some 0 → slot_of filter (shares_of one.groups) ≡ Some slot
       → (one.membership ≡ Member slot) × (all.solo.membership ≡ Leaving slot)
   pub left : (slot : ℕ) → one.membership ≡ Member slot → (all.solo.membership ≡ Member slot) ⊎ HasCode filters all.codes 0 slot (shares_of one.groups)
@@ -67,6 +68,13 @@ module _ (text : List ℕ) (one : SoloState) (c : Coded) (is : LeaveIs text one 
       ⊎_elim
       (λ (yes' : Left text one c). ap (λ (s : SoloState). s.groups) yes'.now)
       (λ (no' : (c.code ≢ 0) × (c.solo ≡ one)). ap (λ (s : SoloState). s.groups) no'.1)
+      is
+
+  leave_subscription : c.solo.subscription ≡ one.subscription
+  leave_subscription =
+      ⊎_elim
+      (λ (yes' : Left text one c). ap (λ (s : SoloState). s.subscription) yes'.now)
+      (λ (no' : (c.code ≢ 0) × (c.solo ≡ one)). ap (λ (s : SoloState). s.subscription) no'.1)
       is
 
   leave_told : (slot : ℕ) → c.code ≡ 0 → slot_of text (shares_of one.groups) ≡ Some slot → (one.membership ≡ Member slot) × (c.solo.membership ≡ Leaving slot)
@@ -134,6 +142,7 @@ module _ (text : List ℕ) (texts : List (List ℕ)) (solo : SoloState) (one : C
       record {
         phase = later.phase ∙ leave_phase text solo one is;
         groups = later.groups ∙ same_groups;
+        subscription = later.subscription ∙ leave_subscription text solo one is;
         leaves = leaves_at;
         left = λ slot was.
             ⊎_elim
@@ -162,6 +171,7 @@ all_leave [] solo =
     record {
       phase = refl;
       groups = refl;
+      subscription = refl;
       leaves = λ place slot filter asked told its. absurd (none_there place filter asked);
       left = λ slot was. inl was;
       was = λ slot now. now;

@@ -26,7 +26,8 @@ use Rattle.conn_rules.specs.Connecting.{first_answer, terms_of, is_given_expiry}
 use Rattle.conn_rules.specs.Packets.{disconnect as disconnecting}
 use Rattle.conn_rules.specs.Publishing.{publish_answer, message_of}
 use Rattle.conn_rules.specs.Subscribing.{entry_answer, subscribe_refusal, unsubscribe_refusal}
-use Rattle.solo_output.specs.Groups.{SoloState, Phase, bound, shares_of, accepted_in, handed_in, waiting_in, unacknowledged, with_phase, with_membership, with_message, with_share, with_puback, with_hand_out}
+use Rattle.conn_supply.specs.Subscribing.{subscription_after}
+use Rattle.solo_output.specs.Groups.{SoloState, Phase, bound, shares_of, accepted_in, handed_in, waiting_in, unacknowledged, with_phase, with_membership, with_subscription, with_message, with_share, with_puback, with_hand_out}
 use Rattle.solo_output.specs.Groups.Phase.{Unconnected, Connected, Closed}
 use Rattle.solo_output.specs.HandOuts.{quota, least_free, due, hand_out, left_with, deliver_to, deliver_in, deliver}
 use Rattle.solo_output.specs.Publishing.{closing, is_full, matching, offer_to, taken_too, publish_reply_as}
@@ -54,6 +55,7 @@ pub record Ways (R : SoloState → SoloState → Type 0) : Type 0 where
   pub joins : (slot : ℕ) (solo : SoloState) → MayJoin solo.membership slot → slot < length solo.groups → R solo (with_membership (Member slot) solo)
   pub leaves : (slot : ℕ) (solo : SoloState) → solo.membership ≡ Member slot → R solo (with_membership (Leaving slot) solo)
   pub parts : (slot : ℕ) (solo : SoloState) → solo.membership ≡ Leaving slot → unacknowledged solo ≡ [] → R solo (with_membership NotMember solo)
+  pub subscribes : (subscription : Option ℕ) (solo : SoloState) → R solo (with_subscription subscription solo)
 
 abbrev pub Accepts : (SoloState → SoloState → Type 0) → Type 0
 Accepts R = (slot : ℕ) (message : Message) (solo : SoloState) → slot < length solo.groups → is_full slot solo ≡ false → R solo (with_message slot message solo)
@@ -80,8 +82,8 @@ due_behind slot solo message messages is =
     let hand_outs = handed_in slot solo.handed_out in
     let accepted = accepted_in slot solo.groups in
     let first' = taken_first (quota solo - length (unacknowledged solo)) (waiting_in slot solo) message messages is in
-    let more : length (unacknowledged (with_hand_out slot next solo)) ≡ length (unacknowledged solo) + 1 = ap length (open_push solo.handed_out slot next) ∙ length_push (unacknowledged solo) next in
-    let longer : length (handed_in slot (with_hand_out slot next solo).handed_out) ≡ length hand_outs + 1 = ap length (handed_in_push_same solo.handed_out slot next) ∙ length_push hand_outs (handed slot next None) in
+    let more : length (unacknowledged (with_hand_out slot next solo)) ≡ length (unacknowledged solo) + 1 = ap length (open_push solo.handed_out slot solo.subscription next) ∙ length_push (unacknowledged solo) next in
+    let longer : length (handed_in slot (with_hand_out slot next solo).handed_out) ≡ length hand_outs + 1 = ap length (handed_in_push_same solo.handed_out slot solo.subscription next) ∙ length_push hand_outs (handed slot solo.subscription next None) in
     let left : waiting_in slot (with_hand_out slot next solo) ≡ first'.0 = ap (λ (n : ℕ). drop n accepted) longer ∙ (drop_cons (length hand_outs) accepted message first'.0 first'.2).1 in
     let many : first'.1 ≡ quota solo - length (unacknowledged (with_hand_out slot next solo)) = omega (arith, more, first'.3) in
     (first'.0, first'.2, omega (arith, first'.3), first'.4 ∙ (λ i. take (many i) (sym left i)))
@@ -128,15 +130,18 @@ module _ (R : SoloState → SoloState → Type 0) (ways : Ways R) where
   enters_as (entries.Refuse code) solo = ways.stays solo
   enters_as (entries.Join share) solo = joins solo.membership share solo refl
 
-  joins_all : (identified : Bool) (entries : List Subscription) (solo : SoloState) → R solo (join_all identified entries solo).solo
-  joins_all identified [] solo = ways.stays solo
-  joins_all identified (entry ∷ entries) solo =
-      let next = (entry_reply (entry_answer identified entry solo.terms) solo).solo in
-      ways.goes_on solo next (join_all identified entries next).solo (enters_as (entry_answer identified entry solo.terms) solo) (joins_all identified entries next)
+  joins_all : (entries : List Subscription) (solo : SoloState) → R solo (join_all entries solo).solo
+  joins_all [] solo = ways.stays solo
+  joins_all (entry ∷ entries) solo =
+      let next = (entry_reply (entry_answer entry solo.terms) solo).solo in
+      ways.goes_on solo next (join_all entries next).solo (enters_as (entry_answer entry solo.terms) solo) (joins_all entries next)
 
   pub subscribes : (refusal : Option ℕ) (subscribe : Subscribe) (solo : SoloState) → R solo (subscribe_reply_as refusal subscribe solo).solo
   subscribes (Some code) subscribe solo = ways.closes solo
-  subscribes None subscribe solo = joins_all _ subscribe.subscriptions solo
+  subscribes None subscribe solo =
+      let all = join_all subscribe.subscriptions solo in
+      let subscription = subscription_after all.codes subscribe.properties.subscription_identifier all.solo.subscription in
+      ways.goes_on solo all.solo (with_subscription subscription all.solo) (joins_all subscribe.subscriptions solo) (ways.subscribes subscription all.solo)
 
   leaves_as : (membership : Membership ℕ) (parsed : Result Share TopicError) (solo : SoloState) → solo.membership ≡ membership → R solo (leave_as membership parsed solo).solo
   leaves_as (Member slot) (Ok share) solo is =

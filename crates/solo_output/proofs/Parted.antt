@@ -71,3 +71,17 @@ delivers_in Closed solo is = delivers_nothing solo (λ e. let no' : Closed ≡ C
 
 pub delivers : (solo : SoloState) → Delivers solo (deliver solo).solo
 delivers solo = delivers_in solo.phase solo refl
+
+-- hand-outs change no Subscription Identifier
+under_to : (membership : Membership ℕ) (solo : SoloState) → (deliver_to membership solo).solo.subscription ≡ solo.subscription
+under_to NotMember solo = refl
+under_to (Member own) solo = (hand_out_keeps own (due own solo) solo).subscription
+under_to (Leaving own) solo = refl
+
+under_in : (phase : Phase) (solo : SoloState) → (deliver_in phase solo).solo.subscription ≡ solo.subscription
+under_in Unconnected solo = refl
+under_in Connected solo = under_to solo.membership solo
+under_in Closed solo = refl
+
+pub delivers_under : (solo : SoloState) → (deliver solo).solo.subscription ≡ solo.subscription
+delivers_under solo = under_in solo.phase solo

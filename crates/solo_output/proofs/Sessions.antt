@@ -1,5 +1,5 @@
 -- How the session of the one client shows a model.
-use Rattle.std.proofs.Common.{◌≡◌, ℕ, min, List, [], ◌∷◌, length, slice_get, Some, refl, sym, ap, ◌∙◌, subst}
+use Rattle.std.proofs.Common.{◌≡◌, ℕ, min, List, [], ◌∷◌, length, slice_get, Option, Some, refl, sym, ap, ◌∙◌, subst}
 use Rattle.std.proofs.lemmas.Bool.{cond_both}
 use Rattle.group_jobs.specs.declared.message.Message.{Message}
 use Rattle.group_jobs.specs.Stamps.{Held}
@@ -12,11 +12,12 @@ use Rattle.session_desk.specs.declared.session.Membership.TheVariants.{NotMember
 use Rattle.session_desk.specs.Rows.{Rows, HasRow}
 use Rattle.session_desk.specs.Sessions.{Who}
 use Rattle.conn_rules.specs.declared.terms.Terms.{Terms}
+use Rattle.conn_supply.specs.Memberships.{with_subscription as having_subscription}
 use Rattle.conn_engine.specs.declared.phase.ConnectedClient.{ConnectedClient}
 use Rattle.local_broker.specs.Places.{GroupPlace}
 use Rattle.local_broker.specs.Broker.{Broker}
 use Rattle.local_group.specs.Groups.{Group}
-use Rattle.solo_output.specs.Groups.{SoloState, HandOut, Phase, accepted_in, handed_in, with_hand_out, with_message, with_membership, with_phase, unacknowledged}
+use Rattle.solo_output.specs.Groups.{SoloState, HandOut, Phase, accepted_in, handed_in, with_hand_out, with_message, with_membership, with_subscription, with_phase, unacknowledged}
 use Rattle.solo_output.specs.Groups.Phase.{Connected}
 use Rattle.solo_output.specs.HandOuts.{hand_out, least_free}
 use Rattle.solo_output.specs.Publishing.{is_full, offer_to, taken_too}
@@ -55,6 +56,7 @@ pub record ShowsSession (solo : SoloState) (session : Session Held GroupPlace) (
   pub window : ShowsWindow solo session.window
   pub member : session.membership ≡ placed solo.membership
   pub idles : Idles solo.membership session.window.owed
+  pub subscribed : session.subscription ≡ solo.subscription
   pub expiry : session.expiry.seconds ≡ solo.terms.session_expiry_interval
   pub lent : IsLentAs b.desk.rows session.identity
 
@@ -70,15 +72,16 @@ pub record Keeps (one other : SoloState) : Type 0 where
   pub phase : other.phase ≡ one.phase
   pub terms : other.terms ≡ one.terms
   pub membership : other.membership ≡ one.membership
+  pub subscription : other.subscription ≡ one.subscription
 
 pub kept : (solo : SoloState) → Keeps solo solo
-kept solo = record { phase = refl; terms = refl; membership = refl }
+kept solo = record { phase = refl; terms = refl; membership = refl; subscription = refl }
 
 pub hand_out_keeps : (slot : ℕ) (messages : List Message) (solo : SoloState) → Keeps solo (hand_out slot messages solo).solo
 hand_out_keeps slot [] solo = kept solo
 hand_out_keeps slot (message ∷ messages) solo =
     let rest = hand_out_keeps slot messages (with_hand_out slot (least_free (unacknowledged solo)) solo) in
-    record { phase = rest.phase; terms = rest.terms; membership = rest.membership }
+    record { phase = rest.phase; terms = rest.terms; membership = rest.membership; subscription = rest.subscription }
 
 pub record KeepsHanded (one other : SoloState) : Type 0 where
   pub same : Keeps one other
@@ -91,7 +94,7 @@ offer_keeps (slot ∷ slots) message solo =
     (λ full. offer_keeps slots message solo)
     (λ room.
     let rest = offer_keeps slots message (with_message slot message solo) in
-    record { same = record { phase = rest.same.phase; terms = rest.same.terms; membership = rest.same.membership }; handed_out = rest.handed_out })
+    record { same = record { phase = rest.same.phase; terms = rest.same.terms; membership = rest.same.membership; subscription = rest.same.subscription }; handed_out = rest.handed_out })
 
 pub window_kept : (one other : SoloState) (w : Contents Held) → KeepsHanded one other → ShowsWindow one w → ShowsWindow other w
 window_kept one other w keeps shows =
@@ -112,6 +115,7 @@ session_kept one other session old new keeps broker desk shows =
       window = window_kept one other session.window keeps shows.window;
       member = shows.member ∙ ap placed (sym keeps.same.membership);
       idles = subst (λ (m : Membership ℕ). Idles m session.window.owed) (sym keeps.same.membership) shows.idles;
+      subscribed = shows.subscribed ∙ sym keeps.same.subscription;
       expiry = shows.expiry ∙ ap (λ (t : Terms). t.session_expiry_interval) (sym keeps.same.terms);
       lent = subst (λ (rows : Rows Held GroupPlace). IsLentAs rows session.identity) (ap (λ d. d.rows) (sym desk)) shows.lent;
     }
@@ -151,6 +155,21 @@ session_in phase solo session b shows =
       window = record { none_waits = shows.window.none_waits; quota_is = shows.window.quota_is; opens = shows.window.opens; not_ending = shows.window.not_ending };
       member = shows.member;
       idles = shows.idles;
+      subscribed = shows.subscribed;
+      expiry = shows.expiry;
+      lent = shows.lent;
+    }
+
+-- another Subscription Identifier
+pub session_under : (subscription : Option ℕ) (solo : SoloState) (session : Session Held GroupPlace) (b : Broker) → ShowsSession solo session b → ShowsSession (with_subscription subscription solo) (having_subscription session subscription) b
+session_under subscription solo session b shows =
+    record {
+      broker = record { routes = shows.broker.routes; few = shows.broker.few; eight = shows.broker.eight; groups = shows.broker.groups };
+      desk = shows.desk;
+      window = record { none_waits = shows.window.none_waits; quota_is = shows.window.quota_is; opens = shows.window.opens; not_ending = shows.window.not_ending };
+      member = shows.member;
+      idles = shows.idles;
+      subscribed = refl;
       expiry = shows.expiry;
       lent = shows.lent;
     }

@@ -60,6 +60,7 @@ sames =
       joins = λ slot solo may within. record { accepted = λ slot. refl; handed = refl };
       leaves = λ slot solo is. record { accepted = λ slot. refl; handed = refl };
       parts = λ slot solo is none. record { accepted = λ slot. refl; handed = refl };
+      subscribes = λ subscription solo. record { accepted = λ slot. refl; handed = refl };
     }
 
 -- ---- a reply
@@ -206,13 +207,14 @@ delivers =
       joins = λ slot solo may within. record { accepted = λ slot. refl; codes = λ place told other there coded. there };
       leaves = λ slot solo is. record { accepted = λ slot. refl; codes = λ place told other there coded. there };
       parts = λ slot solo is none. record { accepted = λ slot. refl; codes = λ place told other there coded. there };
+      subscribes = λ subscription solo. record { accepted = λ slot. refl; codes = λ place told other there coded. there };
     }
 
 delivering : (solo : SoloState) → Delivers solo (deliver solo).solo
 delivering =
     delivered Delivers delivers
     (λ slot message rest solo connected member less waits.
-    record { accepted = λ at. refl; codes = λ place told other there coded. coded_before slot (least_free (unacknowledged solo)) solo.handed_out place told other there coded })
+    record { accepted = λ at. refl; codes = λ place told other there coded. coded_before slot solo.subscription (least_free (unacknowledged solo)) solo.handed_out place told other there coded })
 
 -- ---- a step
 
@@ -230,7 +232,7 @@ all_published : (slot : ℕ) (messages : List Message) (solo : SoloState) → pu
 all_published slot [] solo = refl
 all_published slot (message ∷ messages) solo =
     let next = least_free (unacknowledged solo) in
-    ap (λ (l : List Packet). job false message next ∷ l) (all_published slot messages (with_hand_out slot next solo))
+    ap (λ (l : List Packet). job false message solo.subscription next ∷ l) (all_published slot messages (with_hand_out slot next solo))
 
 published_to : (membership : Membership ℕ) (solo : SoloState) → published (deliver_to membership solo).sent ≡ (deliver_to membership solo).sent
 published_to NotMember solo = refl
@@ -256,11 +258,12 @@ slice_get_front [] ys k x there = absurd (none-some x there)
 slice_get_front (y ∷ xs) ys zero x there = there
 slice_get_front (y ∷ xs) ys (suc k) x there = slice_get_front xs ys k x there
 
--- those that are new go to a member of their group, each under the least identifier that is free by then
+-- those that are new go to a member of their group, each under the client's Subscription Identifier and the least Packet Identifier that is
+-- free by then
 abbrev pub GoTo : SoloState → SoloState → Type 0
 GoTo one two =
     (place : ℕ) (other : HandOut) → length one.handed_out ≤ place → slice_get two.handed_out place ≡ Some other
-    → (two.membership ≡ Member other.slot) × IsLeastFree (open_identifiers (take place two.handed_out)) other.identifier
+    → (two.membership ≡ Member other.slot) × (other.subscription ≡ two.subscription) × IsLeastFree (open_identifiers (take place two.handed_out)) other.identifier
 
 past_end : (solo : SoloState) (place : ℕ) (other : HandOut) → length solo.handed_out ≤ place → slice_get solo.handed_out place ≡ Some other → ⊥
 past_end solo place other past there = let within = slice_get_within solo.handed_out place other there in absurd (omega (arith, within, past))
@@ -270,7 +273,7 @@ take_front hand_outs later = take-append-le (length hand_outs) hand_outs later (
 
 -- where it goes out, after a model
 abbrev GoesOut : ℕ → SoloState → ℕ → HandOut → Type 0
-GoesOut slot behind place other = (other.slot ≡ slot) × IsLeastFree (open_identifiers (take place behind.handed_out)) other.identifier
+GoesOut slot behind place other = (other.slot ≡ slot) × (other.subscription ≡ behind.subscription) × IsLeastFree (open_identifiers (take place behind.handed_out)) other.identifier
 
 members_of : (slot : ℕ) (messages : List Message) (solo : SoloState) → solo.phase ≡ Connected → solo.membership ≡ Member slot → messages ≡ due slot solo
     → (place : ℕ) (other : HandOut) → length solo.handed_out ≤ place → slice_get (hand_out slot messages solo).solo.handed_out place ≡ Some other → GoesOut slot (hand_out slot messages solo).solo place other
@@ -280,7 +283,7 @@ members_of slot (message ∷ messages) solo connected member is place other past
     let behind = with_hand_out slot next solo in
     let last = (hand_out slot messages behind).solo in
     let rest = due_behind slot solo message messages is in
-    let one = handed slot next None in
+    let one = handed slot solo.subscription next None in
     ⊎_elim
     (λ (here : place ≡ length solo.handed_out).
     let later = appends_handing slot messages behind connected member rest.3 in
@@ -291,6 +294,7 @@ members_of slot (message ∷ messages) solo connected member is place other past
     let same' : one ≡ other = same_Some one other (sym got ∙ there) in
     let before : take place last.handed_out ≡ solo.handed_out = (λ i. take (here i) (all i)) ∙ take_front solo.handed_out (one ∷ later.0) in (
       ap (λ (h : HandOut). h.slot) (sym same'),
+      ap (λ (h : HandOut). h.subscription) (sym same') ∙ sym (hand_out_keeps slot messages behind).subscription,
       subst (λ (h : HandOut). IsLeastFree (open_identifiers (take place last.handed_out)) h.identifier) same'
           (subst (λ (l : List HandOut). IsLeastFree (open_identifiers l) next) (sym before) (is_least (unacknowledged solo))),
     ))
@@ -301,7 +305,7 @@ go_to : (membership : Membership ℕ) (solo : SoloState) → solo.phase ≡ Conn
 go_to NotMember solo connected is place other past there = absurd (past_end solo place other past there)
 go_to (Member slot) solo connected is place other past there =
     let goes = members_of slot (due slot solo) solo connected is refl place other past there in
-    ((hand_out_keeps slot (due slot solo) solo).membership ∙ is ∙ ap (λ (n : ℕ). Member n) (sym goes.0), goes.1)
+    ((hand_out_keeps slot (due slot solo) solo).membership ∙ is ∙ ap (λ (n : ℕ). Member n) (sym goes.0), goes.1, goes.2)
 go_to (Leaving slot) solo connected is place other past there = absurd (past_end solo place other past there)
 
 go_in : (phase : Phase) (solo : SoloState) → solo.phase ≡ phase → GoTo solo (deliver_in phase solo).solo
@@ -325,6 +329,7 @@ as_many =
       joins = λ slot solo may within. refl;
       leaves = λ slot solo is. refl;
       parts = λ slot solo is none. refl;
+      subscribes = λ subscription solo. refl;
     }
 
 pub step_goes_to : (packet : Packet) (solo : SoloState) → GoTo solo (solo_step packet solo).solo

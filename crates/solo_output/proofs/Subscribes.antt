@@ -74,6 +74,7 @@ module _ (solo : SoloState) (session : Session Held GroupPlace) (old : Broker) (
               window = window_as membership solo session.window shows.window;
               member = refl;
               idles = idles;
+              subscribed = shows.subscribed;
               expiry = shows.expiry;
               lent = shows.lent;
             }));
@@ -93,11 +94,11 @@ module _ (solo : SoloState) (session : Session Held GroupPlace) (old : Broker) (
     no_entries membership slot = ap (entries_at membership slot) empty ∙ entries_none membership slot
 
     -- a place is lent in a group that is there
-    lent_in : (slot : ℕ) (code : ℕ) (membership : Membership GroupPlace) (routed : SoloState) (mid new : Broker) → routed.terms ≡ solo.terms → routed.phase ≡ solo.phase → routed.handed_out ≡ solo.handed_out
+    lent_in : (slot : ℕ) (code : ℕ) (membership : Membership GroupPlace) (routed : SoloState) (mid new : Broker) → routed.terms ≡ solo.terms → routed.phase ≡ solo.phase → routed.handed_out ≡ solo.handed_out → routed.subscription ≡ solo.subscription
         → slot < 8 → ShowsBroker routed session.window.owed mid → routed.membership ≡ NotMember → mid.desk ≡ old.desk → (lent : Option GroupPlace) → IsLent Calls slot_at mid slot lent code membership new
         → Codes (coded 1 (with_membership (Member slot) routed)) solo session code membership new
-    lent_in slot code membership routed mid new terms phase handed small broker none desk None does = absurd (lends_some slot mid new small (subst (ShowsDesk NotMember) (sym desk) free_desk) does.0)
-    lent_in slot code membership routed mid new terms phase handed small broker none desk (Some place) does =
+    lent_in slot code membership routed mid new terms phase handed subscription small broker none desk None does = absurd (lends_some slot mid new small (subst (ShowsDesk NotMember) (sym desk) free_desk) does.0)
+    lent_in slot code membership routed mid new terms phase handed subscription small broker none desk (Some place) does =
         let got = lends slot mid new place small (subst (ShowsDesk NotMember) (sym desk) free_desk) does.0 in
         let is : membership ≡ Member (first_place slot) = does.2 ∙ ap Member got.0 in
         let rows : new.desk.rows ≡ old.desk.rows = got.2.rows ∙ ap (λ d. d.rows) desk in
@@ -118,6 +119,7 @@ module _ (solo : SoloState) (session : Session Held GroupPlace) (old : Broker) (
                 };
                 member = refl;
                 idles = tt;
+                subscribed = shows.subscribed ∙ sym subscription;
                 expiry = shows.expiry ∙ ap (λ (t : Terms). t.session_expiry_interval) (sym terms);
                 lent = subst (λ (rs : Rows Held GroupPlace). IsLentAs rs session.identity) (sym rows) shows.lent;
               });
@@ -135,7 +137,7 @@ module _ (solo : SoloState) (session : Session Held GroupPlace) (old : Broker) (
         let here : slot_of share.text (shares_of solo.groups) ≡ Some slot = ap (slot_of share.text) (sym shows.broker.routes) ∙ found in
         let within : slot < length old.routes = position_below (λ other. bytes_eq other.text share.text) old.routes slot found in
         subst (λ (f : Option ℕ). Codes (enter f share solo) solo session code membership new) (sym here)
-        (lent_in slot code membership solo mid new refl refl refl (omega (arith, within, same_count, shows.broker.few)) (broker_moved solo session.window.owed old mid routes groups shows.broker) idle desk lent does)
+        (lent_in slot code membership solo mid new refl refl refl refl (omega (arith, within, same_count, shows.broker.few)) (broker_moved solo session.window.owed old mid routes groups shows.broker) idle desk lent does)
 
     -- it is bound to the next slot
     enters_next : (share : Share) (slot : ℕ) (code : ℕ) (membership : Membership GroupPlace) (mid new : Broker) (lent : Option GroupPlace) → slot_of share.text old.routes ≡ None → slot ≡ length old.routes → length old.routes < most_routes
@@ -158,7 +160,7 @@ module _ (solo : SoloState) (session : Session Held GroupPlace) (old : Broker) (
         subst (λ (f : Option ℕ). Codes (enter f share solo) solo session code membership new) (sym here)
         (subst (λ (b : Bool). Codes (cond b (coded 1 (with_membership (Member (length solo.groups)) (with_share share solo))) (coded 0x97 solo)) solo session code membership new)
         (sym (lt-ltb (length solo.groups) most_routes few))
-        (lent_in (length solo.groups) code membership (with_share share solo) mid new refl refl refl small broker idle desk lent its))
+        (lent_in (length solo.groups) code membership (with_share share solo) mid new refl refl refl refl small broker idle desk lent its))
 
     -- there is no slot for it
     enters_none : (share : Share) (code : ℕ) (membership : Membership GroupPlace) (new : Broker) → slot_of share.text old.routes ≡ None → length old.routes ≡ most_routes → code ≡ 0x97 → membership ≡ NotMember → new ≡ old
@@ -258,13 +260,13 @@ no_codes solo session old new codes membership shows none same still =
       phase = refl;
     }
 
-pub joins_all : (identified : Bool) (terms : Terms) (entries : List Subscription) (solo : SoloState) (session : Session Held GroupPlace) (old new : Broker) (codes : List ℕ) (membership : Membership GroupPlace) → ShowsSession solo session old → terms ≡ solo.terms
-    → AnswersEntries Calls slot_at identified terms old session.membership entries codes membership new → CodesAll (join_all identified entries solo) solo session codes membership new
-joins_all identified terms [] solo session old new codes membership shows same does = no_codes solo session old new codes membership shows does.0 does.1 does.2
-joins_all identified terms (entry ∷ entries) solo session old new codes membership shows same (code, rest, between, mid, first, later, are) =
-    let one = answers_entry solo session old shows (entry_answer identified entry solo.terms) code between mid
-    (subst (λ (t : Terms). AnswersEntry Calls slot_at old session.membership (entry_answer identified entry t) code between mid) same first) in
-    let others = joins_all identified terms entries (entry_reply (entry_answer identified entry solo.terms) solo).solo (having session between) mid new rest membership one.shows (same ∙ sym one.terms) later in
+pub joins_all : (terms : Terms) (entries : List Subscription) (solo : SoloState) (session : Session Held GroupPlace) (old new : Broker) (codes : List ℕ) (membership : Membership GroupPlace) → ShowsSession solo session old → terms ≡ solo.terms
+    → AnswersEntries Calls slot_at terms old session.membership entries codes membership new → CodesAll (join_all entries solo) solo session codes membership new
+joins_all terms [] solo session old new codes membership shows same does = no_codes solo session old new codes membership shows does.0 does.1 does.2
+joins_all terms (entry ∷ entries) solo session old new codes membership shows same (code, rest, between, mid, first, later, are) =
+    let one = answers_entry solo session old shows (entry_answer entry solo.terms) code between mid
+    (subst (λ (t : Terms). AnswersEntry Calls slot_at old session.membership (entry_answer entry t) code between mid) same first) in
+    let others = joins_all terms entries (entry_reply (entry_answer entry solo.terms) solo).solo (having session between) mid new rest membership one.shows (same ∙ sym one.terms) later in
     record { codes_are = are ∙ (λ i. one.code_is i ∷ others.codes_are i); shows = others.shows; terms = others.terms ∙ one.terms; phase = others.phase ∙ one.phase }
 
 pub leaves_all : (texts : List (List ℕ)) (solo : SoloState) (session : Session Held GroupPlace) (old new : Broker) (codes : List ℕ) (membership : Membership GroupPlace) → ShowsSession solo session old

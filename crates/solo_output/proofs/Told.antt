@@ -49,22 +49,26 @@ jobs_none (message ∷ messages) = refl
 
 -- the next message goes out
 jobs_push : (messages : List Message) (hand_outs : List HandOut) (message : Message) (rest : List Message) (one : HandOut) → drop (length hand_outs) messages ≡ message ∷ rest
-    → jobs_of messages (hand_outs ++ one ∷ []) ≡ jobs_of messages hand_outs ++ job false message one.identifier ∷ []
+    → jobs_of messages (hand_outs ++ one ∷ []) ≡ jobs_of messages hand_outs ++ job false message one.subscription one.identifier ∷ []
 jobs_push [] [] message rest one left = absurd cc
 jobs_push [] (other ∷ hand_outs) message rest one left = absurd cc
 jobs_push (own ∷ messages) [] message rest one left =
     let same : own ≡ message = cc in
-    (λ i. job false (same i) one.identifier ∷ jobs_none messages i)
-jobs_push (own ∷ messages) (other ∷ hand_outs) message rest one left = ap (λ (l : List Packet). job false own other.identifier ∷ l) (jobs_push messages hand_outs message rest one left)
+    (λ i. job false (same i) one.subscription one.identifier ∷ jobs_none messages i)
+jobs_push (own ∷ messages) (other ∷ hand_outs) message rest one left = ap (λ (l : List Packet). job false own other.subscription other.identifier ∷ l) (jobs_push messages hand_outs message rest one left)
 
 -- a further message is none that went out
 jobs_accepting : (messages : List Message) (message : Message) (hand_outs : List HandOut) → length hand_outs ≤ length messages → jobs_of (messages ++ message ∷ []) hand_outs ≡ jobs_of messages hand_outs
 jobs_accepting [] message [] few = refl
 jobs_accepting [] message (one ∷ hand_outs) few = absurd (omega arith)
 jobs_accepting (own ∷ messages) message [] few = refl
-jobs_accepting (own ∷ messages) message (one ∷ hand_outs) few = ap (λ (l : List Packet). job false own one.identifier ∷ l) (jobs_accepting messages message hand_outs (omega arith))
+jobs_accepting (own ∷ messages) message (one ∷ hand_outs) few = ap (λ (l : List Packet). job false own one.subscription one.identifier ∷ l) (jobs_accepting messages message hand_outs (omega arith))
 
 -- a PUBACK changes no identifier and no slot
+same_subscription : (b : Bool) (code : ℕ) (one : HandOut) → (cond b (record one { code = Some code }) one).subscription ≡ one.subscription
+same_subscription true code one = refl
+same_subscription false code one = refl
+
 same_identifier : (b : Bool) (code : ℕ) (one : HandOut) → (cond b (record one { code = Some code }) one).identifier ≡ one.identifier
 same_identifier true code one = refl
 same_identifier false code one = refl
@@ -77,7 +81,8 @@ jobs_settled : (identifier code : ℕ) (messages : List Message) (hand_outs : Li
 jobs_settled identifier code [] hand_outs = refl
 jobs_settled identifier code (message ∷ messages) [] = refl
 jobs_settled identifier code (message ∷ messages) (one ∷ hand_outs) =
-    λ i. job false message (same_identifier (is_open one && (one.identifier == identifier)) code one i) ∷ jobs_settled identifier code messages hand_outs i
+    let its = is_open one && (one.identifier == identifier) in
+    λ i. job false message (same_subscription its code one i) (same_identifier its code one i) ∷ jobs_settled identifier code messages hand_outs i
 
 first_kept : (b : Bool) (packet : Packet) (one other : HandOut) (pairs : List (Packet × HandOut))
     → map (λ (pair : Packet × HandOut). pair.0) (cond b ((packet, one) ∷ pairs) pairs) ≡ cond b (packet ∷ map (λ (pair : Packet × HandOut). pair.0) pairs) (map (λ (pair : Packet × HandOut). pair.0) pairs)
@@ -127,6 +132,7 @@ tells =
       joins = λ slot solo may within k. (keeps.joins slot solo may within k, λ packets told. record { many = told.many; each = told.each });
       leaves = λ slot solo is k. (keeps.leaves slot solo is k, λ packets told. record { many = told.many; each = told.each });
       parts = λ slot solo is none k. (keeps.parts slot solo is none k, λ packets told. record { many = told.many; each = told.each });
+      subscribes = λ subscription solo k. (keeps.subscribes subscription solo k, λ packets told. record { many = told.many; each = told.each });
     }
 
 told_accepting : (slot : ℕ) (message : Message) (solo : SoloState) → slot < length solo.groups → is_full slot solo ≡ false → Tells solo (with_message slot message solo)
@@ -168,11 +174,11 @@ told_replying = replied Tells tells told_accepting told_settling
 -- ---- a hand-out is told by its packet
 
 told_one : (slot : ℕ) (message : Message) (rest : List Message) (solo : SoloState) (packets : List Packet) → waiting_in slot solo ≡ message ∷ rest → SentAsHandedOut packets solo
-    → SentAsHandedOut (packets ++ job false message (least_free (unacknowledged solo)) ∷ []) (with_hand_out slot (least_free (unacknowledged solo)) solo)
+    → SentAsHandedOut (packets ++ job false message solo.subscription (least_free (unacknowledged solo)) ∷ []) (with_hand_out slot (least_free (unacknowledged solo)) solo)
 told_one slot message rest solo packets waits told =
     let next = least_free (unacknowledged solo) in
-    let one = handed slot next None in
-    let packet = job false message next in
+    let one = handed slot solo.subscription next None in
+    let packet = job false message solo.subscription next in
     record {
       many = omega (arith, told.many, length_push packets packet, length_push solo.handed_out one);
       each = λ at.
@@ -183,13 +189,13 @@ told_one slot message rest solo packets waits told =
           ∙ ap (λ b. sent_in slot packets solo.handed_out ++ cond b (packet ∷ []) []) (eq-eqb slot slot refl)
           ∙ ap (λ (l : List Packet). l ++ packet ∷ []) (told.each slot)
           ∙ sym (jobs_push (accepted_in slot solo.groups) (handed_in slot solo.handed_out) message rest one waits)
-          ∙ ap (jobs_of (accepted_in slot solo.groups)) (sym (handed_in_push_same solo.handed_out slot next))))
+          ∙ ap (jobs_of (accepted_in slot solo.groups)) (sym (handed_in_push_same solo.handed_out slot solo.subscription next))))
           (λ (other : at ≢ slot).
           sent_push at packets solo.handed_out packet one told.many
           ∙ ap (λ b. sent_in at packets solo.handed_out ++ cond b (packet ∷ []) []) (ne_eqb slot at (λ e. other (sym e)))
           ∙ append-nil (sent_in at packets solo.handed_out)
           ∙ told.each at
-          ∙ ap (jobs_of (accepted_in at solo.groups)) (sym (handed_in_push_other solo.handed_out slot at next (λ e. other (sym e)))))
+          ∙ ap (jobs_of (accepted_in at solo.groups)) (sym (handed_in_push_other solo.handed_out slot solo.subscription at next (λ e. other (sym e)))))
           (cases_eq at slot);
     }
 
@@ -199,8 +205,8 @@ told_handing slot (message ∷ messages) solo packets is told =
     let next = least_free (unacknowledged solo) in
     let behind = due_behind slot solo message messages is in
     let later = hand_out slot messages (with_hand_out slot next solo) in
-    subst (λ (l : List Packet). SentAsHandedOut l later.solo) (append_assoc packets (job false message next ∷ []) later.sent)
-    (told_handing slot messages (with_hand_out slot next solo) (packets ++ job false message next ∷ []) behind.3 (told_one slot message behind.0 solo packets behind.1 told))
+    subst (λ (l : List Packet). SentAsHandedOut l later.solo) (append_assoc packets (job false message solo.subscription next ∷ []) later.sent)
+    (told_handing slot messages (with_hand_out slot next solo) (packets ++ job false message solo.subscription next ∷ []) behind.3 (told_one slot message behind.0 solo packets behind.1 told))
 
 -- who leaves is handed nothing
 told_left : (slot : ℕ) (solo : SoloState) (packets : List Packet) (membership : Membership ℕ) → SentAsHandedOut packets solo → SentAsHandedOut packets (with_membership membership solo)

@@ -11,9 +11,11 @@ pub record Bound : Type 0 where
   pub share : Share
   pub accepted : List Message
 
--- the next message of the group of this slot was sent to the client under this identifier; the Reason Code of its PUBACK, if that came (3.4.2.1)
+-- the next message of the group of this slot was sent to the client under this Subscription Identifier, or none (3.3.2.3.8), and this Packet
+-- Identifier; the Reason Code of its PUBACK, if that came (3.4.2.1)
 pub record HandOut : Type 0 where
   pub slot : ℕ
+  pub subscription : Option ℕ
   pub identifier : ℕ
   pub code : Option ℕ
 
@@ -24,7 +26,7 @@ pub data Phase : Type 0 where
   Closed : Phase
 
 -- What the client asked for when it connected; how many messages may wait in each group; how many may be unacknowledged, whatever its Receive Maximum; the groups, that of slot n at place n; the slot
--- of the group whose member the client is, if it is one; and the hand-outs, in order: the first of a slot is that of the first message of
+-- of the group whose member the client is, if it is one; the Subscription Identifier of its last SUBSCRIBE that was granted, if that had one; and the hand-outs, in order: the first of a slot is that of the first message of
 -- its group, and so on.
 pub record SoloState : Type 0 where
   pub phase : Phase
@@ -33,6 +35,7 @@ pub record SoloState : Type 0 where
   pub max_inflight : ℕ
   pub groups : List Bound
   pub membership : Membership ℕ
+  pub subscription : Option ℕ
   pub handed_out : List HandOut
 
 -- 3.1.2: what holds before a CONNECT: no keep alive, the greatest Receive Maximum, packets of any size, and a session that ends with
@@ -47,7 +50,7 @@ bound share = record { share = share; accepted = [] }
 -- before the first packet, with these shares bound
 abbrev pub opening : ℕ → ℕ → List Share → SoloState
 opening capacity max_inflight shares =
-    record { phase = Unconnected; terms = default_terms; capacity = capacity; max_inflight = max_inflight; groups = map bound shares; membership = NotMember; handed_out = [] }
+    record { phase = Unconnected; terms = default_terms; capacity = capacity; max_inflight = max_inflight; groups = map bound shares; membership = NotMember; subscription = None; handed_out = [] }
 
 abbrev pub shares_of : List Bound → List Share
 shares_of groups = map (λ group. group.share) groups
@@ -103,6 +106,9 @@ with_phase phase solo = record solo { phase = phase }
 abbrev pub with_membership : Membership ℕ → SoloState → SoloState
 with_membership membership solo = record solo { membership = membership }
 
+abbrev pub with_subscription : Option ℕ → SoloState → SoloState
+with_subscription subscription solo = record solo { subscription = subscription }
+
 abbrev pub with_message : ℕ → Message → SoloState → SoloState
 with_message slot message solo = record solo { groups = accepting slot message solo.groups }
 
@@ -114,4 +120,4 @@ with_puback identifier code solo = record solo { handed_out = map (settled ident
 
 abbrev pub with_hand_out : ℕ → ℕ → SoloState → SoloState
 with_hand_out slot identifier solo =
-    record solo { handed_out = solo.handed_out ++ (record { slot = slot; identifier = identifier; code = None }) ∷ [] }
+    record solo { handed_out = solo.handed_out ++ (record { slot = slot; subscription = solo.subscription; identifier = identifier; code = None }) ∷ [] }

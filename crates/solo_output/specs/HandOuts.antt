@@ -1,4 +1,4 @@
--- Which messages go out after a reply, and under which identifiers (sections 2.2.1, 4.6, 4.8.2 and 4.9).
+-- Which messages go out after a reply, and under which identifiers (sections 2.2.1, 3.3.2.3.8, 4.6, 4.8.2 and 4.9).
 use Rattle.std.specs.Prelude.{ℕ, zero, suc, ◌+◌, ◌-◌, ◌==◌, min, false, if◌then◌else◌, List, [], ◌∷◌, length, take}
 use Rattle.std.specs.List.{list_any}
 use Rattle.mqtt_packet.specs.declared.packet.Packet.{Packet}
@@ -37,11 +37,11 @@ sent_first packet solo_step = record solo_step { sent = packet ∷ solo_step.sen
 abbrev pub sends_nothing : SoloState → SoloStep
 sends_nothing solo = record { sent = []; solo = solo }
 
--- the messages go out, each under the least identifier that is free by then
+-- the messages go out, each under the client's Subscription Identifier, and under the least Packet Identifier that is free by then
 abbrev pub hand_out : ℕ → List Message → SoloState → SoloStep
 hand_out slot [] solo = sends_nothing solo
 hand_out slot (message ∷ messages) solo =
-    sent_first (job false message (least_free (unacknowledged solo)))
+    sent_first (job false message solo.subscription (least_free (unacknowledged solo)))
     (hand_out slot messages (with_hand_out slot (least_free (unacknowledged solo)) solo))
 
 -- who leaves is handed nothing, and is no member once nothing is unacknowledged

@@ -1,5 +1,5 @@
 -- How a client comes into a group, and out of it (sections 3.8 to 3.11).
-use Rattle.std.specs.Prelude.{◌≡◌, ℕ, List, map, slice_get, Some, None, is_some, Ok}
+use Rattle.std.specs.Prelude.{◌≡◌, ℕ, List, map, slice_get, Option, Some, None, Ok}
 use Rattle.mqtt_packet.specs.declared.packet.Packet.{Packet}
 use Rattle.mqtt_packet.specs.declared.packet.Packet.TheVariants as kinds
 use Rattle.mqtt_packet.specs.declared.packet.Subscribe.{Subscribe}
@@ -36,6 +36,11 @@ Leaves (kinds.Unsubscribe unsubscribe) reply slot =
     × HasCode unsubscribe.filters codes 0 slot (shares_of reply.solo.groups)
 Leaves _ reply slot = ⊥
 
+-- 3.8.2.1.2: the Subscription Identifier of a SUBSCRIBE, if it has one
+abbrev pub subscription_in : Packet → Option ℕ
+subscription_in (kinds.Subscribe subscribe) = subscribe.properties.subscription_identifier
+subscription_in _ = None
+
 -- 3.8.3: a client that is connected sends this SUBSCRIBE, which does not close the connection; it has an entry of this share that is served
 pub record AsksFor (subscribe : Subscribe) (share : Share) (solo : SoloState) : Type 0 where
   pub connected : solo.phase ≡ Connected
@@ -43,7 +48,7 @@ pub record AsksFor (subscribe : Subscribe) (share : Share) (solo : SoloState) : 
   pub place : ℕ
   pub entry : Subscription
   pub asked : slice_get subscribe.subscriptions place ≡ Some entry
-  pub served : entry_answer (is_some subscribe.properties.subscription_identifier) entry solo.terms ≡ Join share
+  pub served : entry_answer entry solo.terms ≡ Join share
 
 -- 3.10.3: a client that is connected sends this UNSUBSCRIBE, which does not close the connection; it has the text of the share of this slot
 pub record AsksToLeave (unsubscribe : Unsubscribe) (slot : ℕ) (solo : SoloState) : Type 0 where

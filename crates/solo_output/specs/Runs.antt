@@ -66,9 +66,9 @@ published packets = filter is_publish packets
 abbrev pub sent_in : ℕ → List Packet → List HandOut → List Packet
 sent_in slot packets hand_outs = map (λ pair. pair.0) (filter (λ pair. pair.1.slot == slot) (zip packets hand_outs))
 
--- messages as they go out (DUP 0), the first under the identifier of the first hand-out, and so on, as far as both lists go
+-- messages as they go out (DUP 0), the first under the identifiers of the first hand-out, and so on, as far as both lists go
 abbrev pub jobs_of : List Message → List HandOut → List Packet
-jobs_of messages hand_outs = map (λ pair. job false pair.0 pair.1.identifier) (zip messages hand_outs)
+jobs_of messages hand_outs = map (λ pair. job false pair.0 pair.1.subscription pair.1.identifier) (zip messages hand_outs)
 
 -- ---- whose a hand-out is, and what settles it
 
@@ -81,6 +81,7 @@ IsInGroup (Leaving own) slot = own ≡ slot
 -- a hand-out as it was, or settled since
 pub record IsStill (before after : HandOut) : Type 0 where
   pub slot : after.slot ≡ before.slot
+  pub subscription : after.subscription ≡ before.subscription
   pub identifier : after.identifier ≡ before.identifier
   pub for_good : (code : ℕ) → before.code ≡ Some code → after.code ≡ Some code
 

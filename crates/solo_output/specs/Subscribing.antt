@@ -1,5 +1,5 @@
 -- The replies to a SUBSCRIBE and to an UNSUBSCRIBE (sections 3.8 to 3.11).
-use Rattle.std.specs.Prelude.{ℕ, ◌==◌, nat_lt, Bool, if◌then◌else◌, List, [], ◌∷◌, length, Option, Some, None, Result, Ok, Err, is_some}
+use Rattle.std.specs.Prelude.{ℕ, ◌==◌, nat_lt, Bool, if◌then◌else◌, List, [], ◌∷◌, length, Option, Some, None, Result, Ok, Err}
 use Rattle.mqtt_packet.specs.declared.packet.Subscribe.{Subscribe}
 use Rattle.mqtt_packet.specs.declared.packet.Subscription.{Subscription}
 use Rattle.mqtt_packet.specs.declared.packet.Unsubscribe.{Unsubscribe}
@@ -12,7 +12,8 @@ use Rattle.conn_rules.specs.declared.subscribing.EntryAnswer.{EntryAnswer}
 use Rattle.conn_rules.specs.declared.subscribing.EntryAnswer.TheVariants as answers
 use Rattle.conn_rules.specs.Subscribing.{entry_answer, subscribe_refusal, unsubscribe_refusal}
 use Rattle.conn_rules.specs.Packets.{disconnect, suback, unsuback}
-use Rattle.solo_output.specs.Groups.{SoloState, shares_of, with_membership, with_share}
+use Rattle.conn_supply.specs.Subscribing.{subscription_after}
+use Rattle.solo_output.specs.Groups.{SoloState, shares_of, with_membership, with_share, with_subscription}
 use Rattle.solo_output.specs.Publishing.{Reply, answering, closing}
 
 -- the Reason Code of one entry, and the model after it
@@ -75,11 +76,11 @@ abbrev pub coded_first : ℕ → AllCoded → AllCoded
 coded_first code later = record later { codes = code ∷ later.codes }
 
 -- the entries in their order: each sees what the earlier ones did
-abbrev pub join_all : Bool → List Subscription → SoloState → AllCoded
-join_all identified [] solo = record { codes = []; solo = solo }
-join_all identified (entry ∷ entries) solo =
-    coded_first (entry_reply (entry_answer identified entry solo.terms) solo).code
-    (join_all identified entries (entry_reply (entry_answer identified entry solo.terms) solo).solo)
+abbrev pub join_all : List Subscription → SoloState → AllCoded
+join_all [] solo = record { codes = []; solo = solo }
+join_all (entry ∷ entries) solo =
+    coded_first (entry_reply (entry_answer entry solo.terms) solo).code
+    (join_all entries (entry_reply (entry_answer entry solo.terms) solo).solo)
 
 abbrev pub leave_all : List (List ℕ) → SoloState → AllCoded
 leave_all [] solo = record { codes = []; solo = solo }
@@ -91,11 +92,15 @@ subscribed identifier all = answering (suback identifier all.codes) all.solo
 abbrev pub unsubscribed : ℕ → AllCoded → Reply
 unsubscribed identifier all = answering (unsuback identifier all.codes) all.solo
 
+-- 3.8.4: a SUBSCRIBE with an entry that is answered 01 gives the client its Subscription Identifier, or takes that which it had
+abbrev pub identified : Option ℕ → AllCoded → AllCoded
+identified identifier all = record all { solo = with_subscription (subscription_after all.codes identifier all.solo.subscription) all.solo }
+
 -- a SUBSCRIBE closes the connection, or is answered by a SUBACK with a code for each entry
 abbrev pub subscribe_reply_as : Option ℕ → Subscribe → SoloState → Reply
 subscribe_reply_as (Some code) subscribe solo = closing (Some (disconnect code)) solo
 subscribe_reply_as None subscribe solo =
-    subscribed subscribe.packet_identifier (join_all (is_some subscribe.properties.subscription_identifier) subscribe.subscriptions solo)
+    subscribed subscribe.packet_identifier (identified subscribe.properties.subscription_identifier (join_all subscribe.subscriptions solo))
 
 abbrev pub subscribe_reply : Subscribe → SoloState → Reply
 subscribe_reply subscribe solo = subscribe_reply_as (subscribe_refusal subscribe) subscribe solo

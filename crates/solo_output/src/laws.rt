@@ -72,12 +72,13 @@ pub fn identifier_law()
 /// - `waiting`: no group accepted more than 2^40 messages, the most that one connection may publish to a group, and in none more wait than the
 ///   capacity (profile).
 /// - `in_order`: the PUBLISH packets that were sent are one for each hand-out, and those of a group are its first accepted messages, in order, each
-///   under the identifier of its hand-out, with DUP 0. So none goes out twice, and none before an older one (4.6).
-/// - `members`: what a packet brings out goes to a member of its group, under the least identifier that is free by then. `one_group`: what is
+///   under the Packet Identifier and the Subscription Identifier of its hand-out, with DUP 0. So none goes out twice, and none before an older one (4.6).
+/// - `members`: what a packet brings out goes to a member of its group, under the Subscription Identifier that the client has then, or none
+///   (3.3.2.3.8), and the least Packet Identifier that is free by then. `one_group`: what is
 ///   unacknowledged is of the one group whose member the client is, or which it is leaving (profile); `bound`: that group is there.
 /// - `settles`: a PUBACK gives its Reason Code to the hand-out that is unacknowledged under its identifier; `settled`: and a hand-out has a code only so
 ///   (4.3.2).
-/// - `for_good`: a hand-out keeps its group, its identifier and, once it has one, its Reason Code.
+/// - `for_good`: a hand-out keeps its group, its identifiers and, once it has one, its Reason Code.
 /// - `one_fate`: the counts of a group's report add up to that of its accepted messages (profile).
 /// - `eager`: while a client is connected and a member, a message of its group waits only where the quota has no room (profile).
 /// - `closed`: once its connection is closed nothing is sent, also to a fault, and nothing changes.
@@ -108,7 +109,7 @@ pub fn every_run_is_lawful()
     ensures members { (setup : Setup) (packets : List Packet) (packet : Packet) (place : ℕ) (one : HandOut) →
         let solo = (run_of setup packets).solo in let next = (solo_step packet solo).solo in
         length solo.handed_out ≤ place → slice_get next.handed_out place ≡ Some one →
-        (next.membership ≡ Member one.slot) × IsLeastFree (open_identifiers (take place next.handed_out)) one.identifier }
+        (next.membership ≡ Member one.slot) × (one.subscription ≡ next.subscription) × IsLeastFree (open_identifiers (take place next.handed_out)) one.identifier }
     ensures one_group { (setup : Setup) (packets : List Packet) (place : ℕ) (one : HandOut) → let solo = (run_of setup packets).solo in
         slice_get solo.handed_out place ≡ Some one → one.code ≡ None → IsInGroup solo.membership one.slot }
     ensures bound { (setup : Setup) (packets : List Packet) (slot : ℕ) → let solo = (run_of setup packets).solo in
@@ -139,6 +140,8 @@ pub fn every_run_is_lawful()
 /// - `joins`: where the SUBACK has 01 for the text of a share, the client is a member of the group of that share; `joined`: and it becomes one only so
 ///   (3.8.3, 3.9.3). `admits`: a client in no group that asks for a share which is served joins a group, where that share is bound or there is a slot
 ///   for it; `readmits`: and one that is in the group of the share, also one that is leaving it, joins that group (profile).
+/// - `identifies`: where the SUBACK has 01 for the text of a share, the client has the Subscription Identifier of the SUBSCRIBE from then on, or none
+///   where that has none; `identified`: and with any other packet it keeps what it has (3.8.2.1.2, 3.8.4).
 /// - `leaves`: the UNSUBACK has 00 only for the share of the member's own group, and the client is then leaving it, or in no group where nothing is
 ///   unacknowledged; `left`, `leaving`: and a member ceases to be one, and a client is leaving, only so. `releases`: a member that asks to leave does
 ///   (3.10.3, 3.11.3).
@@ -156,6 +159,10 @@ pub fn membership_is_lawful()
     ensures readmits { (solo : SoloState) (subscribe : Subscribe) (share : Share) (slot : ℕ) → let packet = kinds.Subscribe subscribe in
         AsksFor subscribe share solo → IsInGroup solo.membership slot → slot_of share.text (shares_of solo.groups) ≡ Some slot →
         Joins packet (reply packet solo) slot }
+    ensures identifies { (solo : SoloState) (packet : Packet) (slot : ℕ) → let next = (solo_step packet solo).solo in
+        Joins packet (reply packet solo) slot → next.subscription ≡ subscription_in packet }
+    ensures identified { (solo : SoloState) (packet : Packet) → let next = (solo_step packet solo).solo in
+        (next.subscription ≡ solo.subscription) ⊎ ((slot : ℕ) × Joins packet (reply packet solo) slot) }
     ensures leaves { (solo : SoloState) (packet : Packet) (slot : ℕ) → let next = (solo_step packet solo).solo in
         Leaves packet (reply packet solo) slot →
         (solo.membership ≡ Member slot) × ((next.membership ≡ Leaving slot) ⊎ ((next.membership ≡ NotMember) × (unacknowledged next ≡ []))) }
