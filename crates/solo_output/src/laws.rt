@@ -31,7 +31,7 @@ ghost use Rattle.solo_output.specs.Replies.{farewell, reply, solo_step, solo_ste
 ghost use Rattle.solo_output.specs.Report.{counts_of};
 ghost use Rattle.solo_output.specs.Streams.{stream_of};
 ghost use Rattle.solo_output.specs.Output.{solo_output, IsOutputFor};
-ghost use Rattle.solo_output.specs.Memberships.{AsksFor, AsksToLeave, Joins, Leaves};
+ghost use Rattle.solo_output.specs.Memberships.{AsksFor, AsksToLeave, Joins, Leaves, subscription_in};
 ghost use Rattle.solo_output.specs.Runs.{run_of, takers, taken, published, sent_in, jobs_of, IsInGroup, IsStill, IsSettledBy};
 
 /// **The output that [`solo`](crate::solo) writes is that of a run of a server**, with at most eight shares bound: what a server says and reports when the client's
