@@ -144,10 +144,10 @@ module _ (group : GroupId) (ports : List PortState) (places : List PlaceState) (
             balanced group ports places held report r settler job there,
           );
       others = (λ other at ne. (
-            neither other at ne,
-            not_out other at,
-            omega (arith, not_out other at, none_at_all (λ fate. times_settled_at fate job other) (neither other at ne), balanced group ports places held report r other job at),
-          ));
+        neither other at ne,
+        not_out other at,
+        omega (arith, not_out other at, none_at_all (λ fate. times_settled_at fate job other) (neither other at ne), balanced group ports places held report r other job at),
+      ));
       none_waits = away;
       again = (let none = away.1 in omega (arith, none, returned_is group ports places held report r job));
       fate = (once_there, not_else);
