@@ -345,7 +345,7 @@ module _ (group : ℕ → GroupId) (seen : Sights) where
   handed_less (Unconnected opened) old new now hands = absurd hands
   handed_less (Waiting request ticks) old new now hands = absurd hands
   handed_less (Connected connected) old new now hands =
-      let some = handed_some (Calls group seen) old hands.2 connected.session.membership connected.session.window hands.0 hands.1 hands.3 in
+      let some = handed_some (Calls group seen) connected.session.subscription old hands.2 connected.session.membership connected.session.window hands.0 hands.1 hands.3 in
       plain hands.2 new (parted (Calls group seen) hands.2 new (after_hand_out connected hands.0 hands.1).session now hands.4) ∙ plain old hands.2 some.1
   handed_less Ended old new now hands = absurd hands
 
