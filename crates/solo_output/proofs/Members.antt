@@ -24,7 +24,6 @@ use Rattle.conn_rules.specs.Packets.{disconnect as disconnecting, suback, unsuba
 use Rattle.conn_rules.specs.Publishing.{publish_answer, message_of}
 use Rattle.conn_rules.specs.Subscribing.{subscribe_refusal, unsubscribe_refusal}
 use Rattle.conn_rules.specs.declared.setup.Setup.{Setup}
-use Rattle.conn_supply.specs.Subscribing.{subscription_after}
 use Rattle.solo_output.specs.Groups.{SoloState, Bound, HandOut, Phase, opening, shares_of, open_identifiers, unacknowledged}
 use Rattle.solo_output.specs.Groups.Phase.{Unconnected, Connected, Closed}
 use Rattle.solo_output.specs.HandOuts.{deliver}
