@@ -78,12 +78,17 @@ fn play(rt: &impl Abort, alloc: Global, scenario: &Scenario<'_>, max_inflight: M
     assert_same_bytes(rt, &output, wanted.as_bytes(), scenario.name);
 }
 
+/// Plays each of these.
+fn play_all(rt: &impl Abort, alloc: Global, scenarios: &[Scenario<'_>]) {
+    for scenario in scenarios {
+        play(rt, alloc, scenario, MaxInflight::most());
+    }
+}
+
 #[test]
 fn scenarios(rt: HostRuntime) {
     for scenarios in all_scenarios() {
-        for scenario in scenarios {
-            play(&rt, rt.alloc(), scenario, MaxInflight::most());
-        }
+        play_all(&rt, rt.alloc(), scenarios);
     }
 }
 
