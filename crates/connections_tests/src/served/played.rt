@@ -255,11 +255,16 @@ fn compare(rt: &impl Abort, alloc: Global, scenario: &Scenario<'_>) {
     supply.abandon();
 }
 
+/// Compares each of these.
+fn compare_all(rt: &impl Abort, alloc: Global, scenarios: &[Scenario<'_>]) {
+    for scenario in scenarios {
+        compare(rt, alloc, scenario);
+    }
+}
+
 #[test]
 fn scenarios(rt: HostRuntime) {
     for scenarios in all_scenarios() {
-        for scenario in scenarios {
-            compare(&rt, rt.alloc(), scenario);
-        }
+        compare_all(&rt, rt.alloc(), scenarios);
     }
 }

@@ -226,12 +226,17 @@ fn compare<R: Wait + Abort>(rt: &R, alloc: Global, scenario: &Scenario<'_>) {
     compare_reports(rt, alloc, scenario.name, lines, &counts);
 }
 
+/// Compares each of these.
+fn compare_all<R: Wait + Abort>(rt: &R, alloc: Global, scenarios: &[Scenario<'_>]) {
+    for scenario in scenarios {
+        compare(rt, alloc, scenario);
+    }
+}
+
 #[test]
 fn scenarios(rt: HostRuntime) {
     for scenarios in all_scenarios() {
-        for scenario in scenarios {
-            compare(&rt, rt.alloc(), scenario);
-        }
+        compare_all(&rt, rt.alloc(), scenarios);
     }
 }
 

@@ -194,6 +194,7 @@ fn group_ledger(rt: HostRuntime) -> Result<(), Fail> {
         held: 1,
         queued: 1,
         returned: 1,
+        discarded: 0,
     };
     let rows = [
         (Ending::WithoutPlace, Err(505)),
