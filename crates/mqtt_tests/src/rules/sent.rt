@@ -6,7 +6,9 @@ use bytes::Bytes;
 use conn_rules::{accepting, disconnect, job, puback, refusing, suback, unsuback};
 use group_jobs::Message;
 use mqtt_fields::Fault;
-use mqtt_packet::{ConnectRefusal, NonEmpty, Packet, PacketIdentifier, ReasonCode, Text};
+use mqtt_packet::{
+    ConnectRefusal, NonEmpty, Packet, PacketIdentifier, ReasonCode, SubscriptionIdentifier, Text,
+};
 use std::alloc::Global;
 use std::test::Fail;
 
@@ -70,8 +72,8 @@ fn subacks_and_unsubacks(rt: HostRuntime) -> Result<(), Fail> {
     Ok(())
 }
 
-// The bytes of a PUBLISH as it goes out under identifier 1; none where it is another packet.
-fn passed_on(alloc: Global, digits: &str, dup: bool) -> Result<Vec<u8>, Fault> {
+// The bytes of a PUBLISH as it goes out under identifier 1, with that Subscription Identifier; none where it is another packet.
+fn passed_on(alloc: Global, digits: &str, dup: bool, subscription: u32) -> Result<Vec<u8>, Fault> {
     let Some(one) = PacketIdentifier::new(1) else {
         return Ok(Vec::new(alloc));
     };
@@ -82,7 +84,8 @@ fn passed_on(alloc: Global, digits: &str, dup: bool) -> Result<Vec<u8>, Fault> {
                 properties: publish.properties,
                 payload: publish.payload,
             };
-            let packet = job(dup, &message, one).or(Err(Fault::Memory))?;
+            let subscription = SubscriptionIdentifier::new(subscription);
+            let packet = job(dup, &message, subscription, one).or(Err(Fault::Memory))?;
             written(alloc, packet)
         }
         Ok(other) => {
@@ -97,11 +100,13 @@ fn passed_on(alloc: Global, digits: &str, dup: bool) -> Result<Vec<u8>, Fault> {
 fn jobs(rt: HostRuntime) -> Result<(), Fail> {
     let digits = "3A0D00016100070601010300016242";
     let rows = [
-        (false, "320d00016100010601010300016242"),
-        (true, "3a0d00016100010601010300016242"),
+        (false, 0, "320d00016100010601010300016242"),
+        (true, 0, "3a0d00016100010601010300016242"),
+        (false, 5, "320f0001610001080101030001620b0542"),
+        (true, 200, "3a100001610001090101030001620bc80142"),
     ];
-    for (dup, wanted) in &rows {
-        let bytes = passed_on(rt.alloc(), digits, *dup)?;
+    for (dup, subscription, wanted) in &rows {
+        let bytes = passed_on(rt.alloc(), digits, *dup, *subscription)?;
         assert_text(&rt, hex::encode(rt.alloc(), &bytes)?.as_str(), *wanted);
     }
     Ok(())
