@@ -52,7 +52,7 @@ pub fn job(
         retain: false,
         delivery: Delivery::AtLeastOnce(identifier),
         message_expiry_interval: None,
-        subscription_identifier: None,
+        subscription_identifier: subscription,
         topic,
         properties,
         payload,
