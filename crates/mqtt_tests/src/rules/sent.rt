@@ -1,13 +1,16 @@
 //! The packets that the broker sends, byte for byte.
-use crate::asserting::assert_text;
+use crate::asserting::{assert_same, assert_text};
 use crate::rules::reading::packet;
 use crate::written;
 use bytes::Bytes;
-use conn_rules::{accepting, disconnect, job, puback, refusing, suback, unsuback};
+use conn_rules::{
+    HandOutTerms, accepting, disconnect, is_discarded, job, puback, refusing, suback, unsuback,
+};
 use group_jobs::Message;
 use mqtt_fields::Fault;
 use mqtt_packet::{
-    ConnectRefusal, NonEmpty, Packet, PacketIdentifier, ReasonCode, SubscriptionIdentifier, Text,
+    ConnectRefusal, MaximumPacketSize, NonEmpty, Packet, PacketIdentifier, ReasonCode,
+    SubscriptionIdentifier, Text,
 };
 use std::alloc::Global;
 use std::test::Fail;
@@ -72,28 +75,29 @@ fn subacks_and_unsubacks(rt: HostRuntime) -> Result<(), Fail> {
     Ok(())
 }
 
-// The bytes of a PUBLISH as it goes out under identifier 1, with that Subscription Identifier; none where it is another packet.
-fn passed_on(alloc: Global, digits: &str, dup: bool, subscription: u32) -> Result<Vec<u8>, Fault> {
-    let Some(one) = PacketIdentifier::new(1) else {
-        return Ok(Vec::new(alloc));
-    };
+// The message of a PUBLISH; none where it is another packet.
+fn message(alloc: Global, digits: &str) -> Result<Option<Message>, Fault> {
     match packet(alloc, digits) {
-        Ok(Some(Packet::Publish(publish))) => {
-            let message = Message {
-                topic: publish.topic,
-                properties: publish.properties,
-                payload: publish.payload,
-            };
-            let subscription = SubscriptionIdentifier::new(subscription);
-            let packet = job(dup, &message, subscription, one).or(Err(Fault::Memory))?;
-            written(alloc, packet)
-        }
+        Ok(Some(Packet::Publish(publish))) => Ok(Some(Message {
+            topic: publish.topic,
+            properties: publish.properties,
+            payload: publish.payload,
+        })),
         Ok(other) => {
             drop(other);
-            Ok(Vec::new(alloc))
+            Ok(None)
         }
         Err(fault) => Err(fault),
     }
+}
+
+// The bytes of a PUBLISH as it goes out under identifier 1, with that Subscription Identifier.
+fn passed_on(alloc: Global, digits: &str, dup: bool, subscription: u32) -> Result<Vec<u8>, Fail> {
+    let one = PacketIdentifier::new(1).ok_or("1 is an identifier")?;
+    let message = message(alloc, digits)?.ok_or("a PUBLISH")?;
+    let subscription = SubscriptionIdentifier::new(subscription);
+    let packet = job(dup, &message, subscription, one).or(Err(Fault::Memory))?;
+    Ok(written(alloc, packet)?)
 }
 
 #[test]
@@ -108,6 +112,29 @@ fn jobs(rt: HostRuntime) -> Result<(), Fail> {
     for (dup, subscription, wanted) in &rows {
         let bytes = passed_on(rt.alloc(), digits, *dup, *subscription)?;
         assert_text(&rt, hex::encode(rt.alloc(), &bytes)?.as_str(), *wanted);
+    }
+    Ok(())
+}
+
+// The PUBLISH of this message has 15 bytes, and 17 under a Subscription Identifier of one byte.
+#[test]
+fn messages_that_are_too_long(rt: HostRuntime) -> Result<(), Fail> {
+    let message = message(rt.alloc(), "3A0D00016100070601010300016242")?.ok_or("a PUBLISH")?;
+    let rows = [
+        (0, 0, false),
+        (0, 15, false),
+        (0, 14, true),
+        (5, 17, false),
+        (5, 16, true),
+        (5, 1, true),
+    ];
+    for (subscription, maximum, wanted) in &rows {
+        let terms = HandOutTerms {
+            subscription: SubscriptionIdentifier::new(*subscription),
+            maximum_packet_size: MaximumPacketSize::new(*maximum),
+        };
+        let discarded = is_discarded(&message, &terms).or(Err(Fault::Memory))?;
+        assert_same(&rt, &discarded, wanted);
     }
     Ok(())
 }
