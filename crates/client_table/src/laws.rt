@@ -20,7 +20,7 @@ ghost use Rattle.client_table.specs.Streams.{Reads, FailsToRead, Ticks, FailsToT
 use conn_supply::{HoldingPlace, Supply};
 
 /// **What a client does is a list of calls**: reading its stream, a Tick, a last step, and giving it up, with memory and without. Where
-/// memory is not wanted, what these calls hand out is what the client is told for the first time.
+/// memory is not wanted, what these calls hand out is what the client is told for the first time, but for what is discarded.
 pub fn calls_law<P: HoldingPlace, S: Supply<P>>()
     ensures reads { (now : ℕ) (said : List StepOutput) (client after : ClientState P) (old new : S) →
         Reads S.call P.slot_of old client now said after new → Delivers S.call old said new }
@@ -49,7 +49,7 @@ pub fn table_calls_law<P: HoldingPlace, S: Supply<P>>()
 {}
 
 /// **What is handed out for the client in a cell is what it is told**, where no allocation fails: each message that a place is handed goes out at
-/// once in a PUBLISH of its own, in their order, and no other message goes out for the first time.
+/// once in a PUBLISH of its own, in their order, unless it is discarded, and no other message goes out for the first time.
 pub fn hand_out_law<P: HoldingPlace, S: Supply<P>>()
     ensures receives { (now : ℕ) (piece : List ℕ) (more : List StepOutput) (before after : Option (ClientState P)) (old new : S) →
         Receives S.call P.slot_of old before now piece more (Ok tt) after new → Delivers S.call old more new }

@@ -11,6 +11,7 @@ use Rattle.session_desk.specs.declared.session.Membership.{Membership}
 use Rattle.conn_rules.specs.declared.connecting.FirstAnswer.{FirstAnswer}
 use Rattle.conn_rules.specs.declared.connecting.FirstAnswer.TheVariants as first
 use Rattle.conn_rules.specs.Connecting.{first_answer, terms_of}
+use Rattle.conn_rules.specs.declared.hand_outs.HandOutTerms.{HandOutTerms}
 use Rattle.conn_rules.specs.Faults.{fault_code, fault_refusal}
 use Rattle.conn_rules.specs.KeepAlive.{is_overdue, is_late}
 use Rattle.conn_rules.specs.Packets.{disconnect}
@@ -43,6 +44,10 @@ request_of max_inflight connect now =
 -- a packet came at this moment; where the clock went back, the later one stands
 abbrev pub hearing : {P : Type 0} → ConnectedClient P → ℕ → ConnectedClient P
 hearing connected now = record { session = connected.session; terms = connected.terms; heard = max connected.heard now }
+
+-- what a client is sent its messages under (3.3.2.3.8); none is too long for it, as it is no member unless it takes each (profile, for now)
+abbrev pub hand_out_terms : {P : Type 0} → ConnectedClient P → HandOutTerms
+hand_out_terms connected = record { subscription = connected.session.subscription; maximum_packet_size = None }
 
 -- the session of a connection has this membership and this window
 abbrev pub after_hand_out : {P : Type 0} → ConnectedClient P → Membership P → Contents Held → ConnectedClient P
@@ -160,7 +165,7 @@ module _ {S P : Type 0} (call : S → SupplyCall P → S → Type 0) (slot_of : 
   abbrev pub Hands : S → ConnPhase P → List Packet → ConnPhase P → S → Type 0
   Hands old (Connected connected) sent phase new =
       (membership : Membership P) × (window : Contents Held)
-      × HandsOut call connected.session.subscription old connected.session.membership connected.session.window sent membership window new
+      × HandsOut call (hand_out_terms connected) old connected.session.membership connected.session.window sent membership window new
       × (phase ≡ Connected (after_hand_out connected membership window))
   Hands old (Unconnected opened) sent phase new = (sent ≡ []) × (phase ≡ Unconnected opened) × (new ≡ old)
   Hands old (Waiting request ticks) sent phase new = (sent ≡ []) × (phase ≡ Waiting request ticks) × (new ≡ old)
@@ -221,7 +226,7 @@ module _ {S P : Type 0} (call : S → SupplyCall P → S → Type 0) (slot_of : 
   abbrev pub HandsLess : S → ConnPhase P → ℕ → S → Type 0
   HandsLess old (Connected connected) now new =
       (membership : Membership P) × (window : Contents Held) × (mid : S)
-      × HandsSome call connected.session.subscription old connected.session.membership connected.session.window membership window mid
+      × HandsSome call (hand_out_terms connected) old connected.session.membership connected.session.window membership window mid
       × Parts call mid (after_hand_out connected membership window).session now new
   HandsLess old (Unconnected opened) now new = ⊥
   HandsLess old (Waiting request ticks) now new = ⊥

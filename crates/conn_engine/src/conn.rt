@@ -7,7 +7,7 @@ ghost use Rattle.conn_engine.specs.Phases.{IsSoundPhase, IsWaiting, IsConnected}
 ghost use Rattle.std.specs.Option.{option_to_list};
 ghost use Rattle.conn_supply.specs.HandOuts.{HandsSome};
 ghost use Rattle.conn_engine.specs.Looking.{IsSilentTooLong, TakesAt, held_by};
-ghost use Rattle.conn_engine.specs.Step.{IsWanted, NeedsVisit, Hands, HandsLess, Steps, FailsToStep, after_hand_out};
+ghost use Rattle.conn_engine.specs.Step.{IsWanted, NeedsVisit, Hands, HandsLess, Steps, FailsToStep, after_hand_out, hand_out_terms};
 
 use crate::connecting::is_waiting;
 use crate::ending::{cut_off, give_up};
@@ -238,16 +238,17 @@ fn hand_to<P: HoldingPlace, S: Supply<P>>(
     ensures handed { MatchResult result
         (λ _. (sent : List Packet) × (packets.new.items ≡ packets.old.items ++ sent)
         × Hands S.call P.slot_of supply.old (phases.Connected connected.old) sent (phases.Connected connected.new) supply.new)
-        (λ _. HandsSome S.call connected.old.session.subscription supply.old connected.old.session.membership connected.old.session.window connected.new.session.membership connected.new.session.window supply.new
+        (λ _. HandsSome S.call (hand_out_terms connected.old) supply.old connected.old.session.membership connected.old.session.window connected.new.session.membership connected.new.session.window supply.new
         × (connected.new ≡ after_hand_out connected.old connected.new.session.membership connected.new.session.window)) }
     ensures sound { IsSoundSession P.has_out connected.new.session }
     ensures visiting { S.visiting supply.new ≡ S.visiting supply.old }
 {
+    let terms = connected.hand_out_terms();
     let session = &mut connected.session;
     hand_out(
         supply,
         &mut session.membership,
-        session.subscription,
+        &terms,
         &mut session.window,
         packets,
     )

@@ -4,8 +4,9 @@ ghost use Rattle.session_desk.specs.declared.session.Membership.TheVariants.{Not
 ghost use Rattle.conn_engine.specs.declared.phase.ConnPhase.TheVariants as phases;
 ghost use Rattle.conn_engine.specs.Answering.{joining};
 ghost use Rattle.conn_engine.specs.Phases.{IsConnected};
+ghost use Rattle.conn_engine.specs.Step.{hand_out_terms};
 
-use conn_rules::{MaxInflight, Terms};
+use conn_rules::{HandOutTerms, MaxInflight, Terms};
 use group_jobs::Envelope;
 use mqtt_packet::Text;
 use session_desk::{Membership, Session};
@@ -35,6 +36,16 @@ pub(crate) struct ConnectedClient<P> {
 }
 
 impl<P> ConnectedClient<P> {
+    /// What the client is sent its messages under. None is too long for it, as it is no member unless it takes each (profile, for now).
+    pub(crate) fn hand_out_terms(&self) -> HandOutTerms
+        ensures { result ≡ hand_out_terms self.now }
+    {
+        HandOutTerms {
+            subscription: self.session.subscription,
+            maximum_packet_size: None,
+        }
+    }
+
     /// The session of a connection that ends.
     pub(crate) fn into_session(self) -> Session<Envelope, P>
         ensures { result ≡ self.session }

@@ -1,5 +1,5 @@
 -- A step that wants memory is a list of calls.
-use Rattle.std.proofs.Common.{◌≡◌, ℕ, List, [], ◌∷◌, ◌++◌, map, Result, refl, sym, ap, subst, ◌∙◌, append-nil, inl, inr, ⊎_elim, is_some}
+use Rattle.std.proofs.Common.{◌≡◌, ℕ, List, [], ◌∷◌, ◌++◌, map, Result, refl, sym, ap, subst, ◌∙◌, append-nil, inl, inr, ⊎_elim}
 use Rattle.mqtt_packet.specs.declared.packet.Packet.{Packet}
 use Rattle.mqtt_packet.specs.declared.packet.Packet.TheVariants as packets
 use Rattle.mqtt_packet.specs.declared.packet.Publish.{Publish}
@@ -17,18 +17,27 @@ use Rattle.conn_engine.specs.declared.phase.ConnPhase.{ConnPhase}
 use Rattle.conn_engine.specs.declared.phase.ConnPhase.TheVariants.{Unconnected, Waiting, Connected, Ended}
 use Rattle.conn_engine.specs.Answering.{FailsToAnswer}
 use Rattle.conn_laws.specs.Places.{own_places, KeepsPlaces}
-use Rattle.conn_laws.specs.Calls.{offer_of, match_of, settlement_of, offered, matched, settled, handed, MakesAll, OffersToEach, OffersNone, SettlesOne, SettlesNone, OffersToSome, FailedCalls}
+use Rattle.conn_laws.specs.Calls.{offer_of, match_of, settlement_of, offered, matched, settled, hand_out_of, handed, Outcome, hand_outs_of, discards_of, MakesAll, OffersToEach, OffersNone, SettlesOne, SettlesNone, OffersToSome, FailedCalls}
 use Rattle.conn_supply.specs.Publishing.{OffersFirst, OffersSome, IsCutShort}
-use Rattle.conn_engine.specs.Step.{hearing, after_hand_out, GivesUp, ShutsDown, CutsOff, FailsToReact, HandsLess, FailsToHand, FailsToStep}
+use Rattle.conn_engine.specs.Step.{hearing, after_hand_out, hand_out_terms, GivesUp, ShutsDown, CutsOff, FailsToReact, HandsLess, FailsToHand, FailsToStep}
 use Rattle.conn_laws.proofs.KeptPlaces.{kept_by_none, kept_by_one, kept_by_both, kept_beside}
-use Rattle.conn_laws.proofs.Calling.{Plain, HandsSomething, beside, still, one, behind, after, joins, parted, swept, failed_to_attach, failed_again, handed_some, some_answered}
+use Rattle.conn_laws.proofs.Calling.{Plain, HandsSomething, hands_on, beside, still, one, behind, joins, parted, swept, failed_to_attach, failed_again, handed_some, some_answered}
 use Rattle.conn_laws.proofs.Ended.{last_over}
-use Rattle.conn_laws.proofs.Stepping.{Walked, none_behind, none_before, none_of_none, further, reacted}
+use Rattle.conn_laws.proofs.Stepping.{Walked, none_behind, none_before, further, reacted}
 
 module _ {S P : Type 0} (call : S → SupplyCall P → S → Type 0) where
-  plain : (given : List Message) (old new : S) (number : ℕ) (phase : ConnPhase P) (input : Input) → Plain call given (own_places phase) [] old new → FailedCalls call old number phase input new
-  plain given old new number phase input calls =
-      record { supply_calls = calls.supply_calls; made = calls.made; offers = inr calls.offers; settles = inr calls.settles; places = calls.places }
+  plain : (outcomes : List (Outcome P)) (old new : S) (number : ℕ) (phase : ConnPhase P) (input : Input) → Plain call (hand_outs_of outcomes) (discards_of outcomes) (own_places phase) [] old new
+      → FailedCalls call old number phase input new
+  plain outcomes old new number phase input calls =
+      record {
+        supply_calls = calls.supply_calls;
+        made = calls.made;
+        offers = inr calls.offers;
+        outcomes = outcomes;
+        handed_out = calls.hands;
+        settles = inr calls.settles;
+        places = calls.places;
+      }
 
   some_of : (number : ℕ) (input : Input) (supply_calls : List (SupplyCall P)) → OffersToEach number input supply_calls → OffersToSome number input supply_calls
   some_of number input supply_calls each =
@@ -42,8 +51,9 @@ module _ {S P : Type 0} (call : S → SupplyCall P → S → Type 0) where
       }
 
   -- what holds of the calls of a step
-  stepped : (given : List Message) (old new : S) (number : ℕ) (phase : ConnPhase P) (input : Input) (next : Then) → Walked call given old number phase input next [] new → FailedCalls call old number phase input new
-  stepped given old new number phase input next calls =
+  stepped : (outcomes : List (Outcome P)) (old new : S) (number : ℕ) (phase : ConnPhase P) (input : Input) (next : Then)
+      → Walked call (hand_outs_of outcomes) (discards_of outcomes) old number phase input next [] new → FailedCalls call old number phase input new
+  stepped outcomes old new number phase input next calls =
       record {
         supply_calls = calls.supply_calls;
         made = calls.made;
@@ -52,7 +62,13 @@ module _ {S P : Type 0} (call : S → SupplyCall P → S → Type 0) where
             (λ (each : OffersToEach number input calls.supply_calls). inl (some_of number input calls.supply_calls each))
             (λ (none : OffersNone phase input calls.supply_calls next). inr none.offers)
             calls.offers;
-        settles = ⊎_elim (λ (only : SettlesOne phase input calls.supply_calls). inl only) (λ (none : SettlesNone phase input calls.supply_calls next). inr none.settles) calls.settles;
+        outcomes = outcomes;
+        handed_out = calls.hands;
+        settles =
+            ⊎_elim
+            (λ (only : SettlesOne phase input calls.supply_calls (discards_of outcomes)). inl only)
+            (λ (none : SettlesNone phase input calls.supply_calls next (discards_of outcomes)). inr none.settles)
+            calls.settles;
         places = calls.places;
       }
 
@@ -66,11 +82,12 @@ module _ {S P : Type 0} (call : S → SupplyCall P → S → Type 0) where
     match : matched supply_calls ≡ []
     offers : offered supply_calls ≡ map (λ slot. (slot, number, message)) these
     settles : settled supply_calls ≡ []
+    hands : handed supply_calls ≡ []
     places : KeepsPlaces [] supply_calls []
 
   none_of : (slots : List ℕ) (old new : S) (number : ℕ) (message : Message) → new ≡ old → OffersPart old number message slots new
   none_of slots old new number message same =
-      record { these = []; others = slots; parts = refl; supply_calls = []; made = same; match = refl; offers = refl; settles = refl; places = kept_by_none [] }
+      record { these = []; others = slots; parts = refl; supply_calls = []; made = same; match = refl; offers = refl; settles = refl; hands = refl; places = kept_by_none [] }
 
   -- that has no memory for it
   last_of : (slot : ℕ) (slots : List ℕ) (old new : S) (number : ℕ) (message : Message) (answer : Result Stamp OfferRefusal) → call old (Offer slot number message answer) new
@@ -86,6 +103,7 @@ module _ {S P : Type 0} (call : S → SupplyCall P → S → Type 0) where
         match = refl;
         offers = refl;
         settles = refl;
+        hands = refl;
         places = kept_by_one only;
       }
 
@@ -102,6 +120,7 @@ module _ {S P : Type 0} (call : S → SupplyCall P → S → Type 0) where
         match = rest.match;
         offers = ap (λ l. (slot, number, message) ∷ l) rest.offers;
         settles = rest.settles;
+        hands = rest.hands;
         places = kept_by_both [] [] [] (first ∷ []) rest.supply_calls (kept_by_one first) rest.places;
       }
 
@@ -116,8 +135,8 @@ module _ {S P : Type 0} (call : S → SupplyCall P → S → Type 0) where
   part_of slots old new number message (inr offers) = first_of slots old new number message offers
 
   -- a PUBLISH that was cut short, with calls by which nothing is offered before and after it
-  cut_short : (old before after new : S) (number : ℕ) (phase : ConnPhase P) (publish : Publish) → Plain call [] (own_places phase) (own_places phase) old before
-      → IsCutShort call before number publish after → Plain call [] (own_places phase) [] after new
+  cut_short : (old before after new : S) (number : ℕ) (phase : ConnPhase P) (publish : Publish) → Plain call [] [] (own_places phase) (own_places phase) old before
+      → IsCutShort call before number publish after → Plain call [] [] (own_places phase) [] after new
       → FailedCalls call old number phase (inputs.Packet (packets.Publish publish)) new
   cut_short old before after new number phase publish first cut last =
       let part = part_of cut.slots cut.mid after number (message_of publish) cut.offered in
@@ -138,6 +157,8 @@ module _ {S P : Type 0} (call : S → SupplyCall P → S → Type 0) where
               ∙ ap (λ slots. (publish.topic, slots) ∷ []) part.parts;
           offers = none_before offer_of first.supply_calls (these ++ last.supply_calls) _ first.offers (none_behind offer_of these last.supply_calls _ part.offers last.offers);
         });
+        outcomes = [];
+        handed_out = none_before hand_out_of first.supply_calls (these ++ last.supply_calls) _ first.hands (none_behind hand_out_of these last.supply_calls _ part.hands last.hands);
         settles = inr (none_before settlement_of first.supply_calls (these ++ last.supply_calls) _ first.settles (none_behind settlement_of these last.supply_calls _ part.settles last.settles));
         places =
             kept_by_both (own_places phase) (own_places phase) [] first.supply_calls (these ++ last.supply_calls) first.places
@@ -145,19 +166,19 @@ module _ {S P : Type 0} (call : S → SupplyCall P → S → Type 0) where
       }
 
   module _ (slot_of : P → ℕ) where
-    given_up : (phase : ConnPhase P) (old new : S) (number now : ℕ) → GivesUp call slot_of old number phase now new → Plain call [] (own_places phase) [] old new
+    given_up : (phase : ConnPhase P) (old new : S) (number now : ℕ) → GivesUp call slot_of old number phase now new → Plain call [] [] (own_places phase) [] old new
     given_up (Unconnected opened) old new number now gives = still call old new refl gives
     given_up (Waiting request ticks) old new number now gives = one call old new _ gives refl refl refl refl
     given_up (Connected connected) old new number now gives = parted call old new connected.session now gives
     given_up Ended old new number now gives = still call old new refl gives
 
-    shut_down : (phase : ConnPhase P) (old new : S) (number : ℕ) → ShutsDown call slot_of old number phase new → Plain call [] (own_places phase) [] old new
+    shut_down : (phase : ConnPhase P) (old new : S) (number : ℕ) → ShutsDown call slot_of old number phase new → Plain call [] [] (own_places phase) [] old new
     shut_down (Unconnected opened) old new number shuts = still call old new refl shuts
     shut_down (Waiting request ticks) old new number shuts = one call old new _ shuts refl refl refl refl
     shut_down (Connected connected) old new number shuts = one call old new _ shuts refl refl refl refl
     shut_down Ended old new number shuts = still call old new refl shuts
 
-    cut_off : (input : Input) (phase : ConnPhase P) (old new : S) (number now : ℕ) → CutsOff call slot_of old number phase now input new → Plain call [] (own_places phase) [] old new
+    cut_off : (input : Input) (phase : ConnPhase P) (old new : S) (number now : ℕ) → CutsOff call slot_of old number phase now input new → Plain call [] [] (own_places phase) [] old new
     cut_off (inputs.Packet packet) phase old new number now cuts = given_up phase old new number now cuts
     cut_off (inputs.Fault fault) phase old new number now cuts = given_up phase old new number now cuts
     cut_off inputs.Tick phase old new number now cuts = given_up phase old new number now cuts
@@ -165,14 +186,14 @@ module _ {S P : Type 0} (call : S → SupplyCall P → S → Type 0) where
     cut_off inputs.Closing phase old new number now cuts = shut_down phase old new number cuts
 
     -- the calls after an answer, of a connection that this is
-    later : (connected' connected : ConnectedClient P) (old new : S) → connected' ≡ connected → Plain call [] (own_places (Connected connected')) [] old new
-        → Plain call [] (own_places (Connected connected)) [] old new
-    later connected' connected old new is calls = subst (λ (connected : ConnectedClient P). Plain call [] (own_places (Connected connected)) [] old new) is calls
+    later : (connected' connected : ConnectedClient P) (old new : S) → connected' ≡ connected → Plain call [] [] (own_places (Connected connected')) [] old new
+        → Plain call [] [] (own_places (Connected connected)) [] old new
+    later connected' connected old new is calls = subst (λ (connected : ConnectedClient P). Plain call [] [] (own_places (Connected connected)) [] old new) is calls
 
     -- an allocation failed for the answer to a packet
     failed_to_answer : (packet : Packet) (old before after new : S) (number now : ℕ) (connected connected' : ConnectedClient P)
-        → Plain call [] (own_places (Connected connected)) (own_places (Connected connected)) old before → FailsToAnswer call slot_of before number (hearing connected now) packet connected' after
-        → Plain call [] (own_places (Connected connected')) [] after new → FailedCalls call old number (Connected connected) (inputs.Packet packet) new
+        → Plain call [] [] (own_places (Connected connected)) (own_places (Connected connected)) old before → FailsToAnswer call slot_of before number (hearing connected now) packet connected' after
+        → Plain call [] [] (own_places (Connected connected')) [] after new → FailedCalls call old number (Connected connected) (inputs.Packet packet) new
     failed_to_answer (packets.Publish publish) old before after new number now connected connected' first fails last =
         cut_short old before after new number (Connected connected) publish first fails.0 (later connected' _ after new fails.1 last)
     failed_to_answer (packets.Subscribe subscribe) old before after new number now connected connected' first fails last =
@@ -228,8 +249,8 @@ module _ {S P : Type 0} (call : S → SupplyCall P → S → Type 0) where
     handed_less (Unconnected opened) old new now hands = absurd hands
     handed_less (Waiting request ticks) old new now hands = absurd hands
     handed_less (Connected connected) old new now hands =
-        let some = handed_some call connected.session.subscription old hands.2 connected.session.membership connected.session.window hands.0 hands.1 hands.3 in
-        (some.0 ++ [], after call some.0 [] old hands.2 new some.1 (parted call hands.2 new (after_hand_out connected hands.0 hands.1).session now hands.4))
+        let some = handed_some call (hand_out_terms connected) old hands.2 connected.session.membership connected.session.window hands.0 hands.1 hands.3 in
+        hands_on call some.0 [] old hands.2 new some.1 (parted call hands.2 new (after_hand_out connected hands.0 hands.1).session now hands.4)
     handed_less Ended old new now hands = absurd hands
 
     pub failed : (old new : S) (number now : ℕ) (phase : ConnPhase P) (input : Input) → FailsToStep call slot_of old number phase now input new → FailedCalls call old number phase input new
@@ -240,7 +261,7 @@ module _ {S P : Type 0} (call : S → SupplyCall P → S → Type 0) where
         (λ (hand : FailsToHand call slot_of old number phase now input new).
         let some = handed_less hand.between hand.mid new now hand.hands in
         stepped some.0 old new number phase input hand.reply.next (
-        further call some.0 old hand.mid new number phase input hand.reply.next
+        further call (hand_outs_of some.0) old hand.mid new number phase input hand.reply.next
         (reacted call slot_of phase input old hand.mid number now hand.between hand.reply hand.reacts) some.1))
         fails
 
@@ -260,8 +281,16 @@ module _ {S P : Type 0} (call : S → SupplyCall P → S → Type 0) where
         → (calls : FailedCalls call old number phase inputs.EndOfInput new) × (handed calls.supply_calls ≡ [])
     failed_at_the_end old new number now phase (inl cuts) =
         let calls = given_up phase old new number now cuts in (
-          record { supply_calls = calls.supply_calls; made = calls.made; offers = inr calls.offers; settles = inr calls.settles; places = calls.places },
-          none_of_none (handed calls.supply_calls) calls.hands,
+          record {
+            supply_calls = calls.supply_calls;
+            made = calls.made;
+            offers = inr calls.offers;
+            outcomes = [];
+            handed_out = calls.hands;
+            settles = inr calls.settles;
+            places = calls.places;
+          },
+          calls.hands,
         )
     failed_at_the_end old new number now phase (inr (inl fails)) = absurd (never_reacts phase old new number now fails)
     failed_at_the_end old new number now phase (inr (inr fails)) = absurd (never_hands phase old new number now fails)

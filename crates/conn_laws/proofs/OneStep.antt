@@ -24,7 +24,7 @@ use Rattle.conn_laws.specs.Asking.{OneAnswer}
 use Rattle.conn_engine.specs.Ending.{down}
 use Rattle.conn_engine.specs.Connecting.{Attaches}
 use Rattle.conn_engine.specs.Answering.{Answers, Disconnects, DisconnectsIf, with_session, joining, subscribing}
-use Rattle.conn_engine.specs.Step.{request_of, hearing, after_hand_out, IsClosed, IsRefusedIf, WaitsForConnect, IsParted, AnswersFirst, Concludes, AnswersPacket, IsHeard, AnswersTick, IsKicked, AnswersUnlessKicked, Reacts, Hands, Steps}
+use Rattle.conn_engine.specs.Step.{hand_out_terms, request_of, hearing, after_hand_out, IsClosed, IsRefusedIf, WaitsForConnect, IsParted, AnswersFirst, Concludes, AnswersPacket, IsHeard, AnswersTick, IsKicked, AnswersUnlessKicked, Reacts, Hands, Steps}
 use Rattle.conn_laws.proofs.OneCall as calls
 use Rattle.conn_laws.proofs.OneEnding as endings
 use Rattle.conn_laws.proofs.OneConnecting.{IsOne, refused}
@@ -167,7 +167,7 @@ module _ {S P : Type 0} (call : S → SupplyCall P → S → Type 0) (AreAlike :
   handed (Unconnected opened) a a' b b' xs ys s t alike h k = (h.0 ∙ sym k.0, h.1 ∙ sym k.1, calls.still call AreAlike answers a a' b b' alike h.2 k.2)
   handed (Waiting request ticks) a a' b b' xs ys s t alike h k = (h.0 ∙ sym k.0, h.1 ∙ sym k.1, calls.still call AreAlike answers a a' b b' alike h.2 k.2)
   handed (Connected connected) a a' b b' xs ys s t alike h k =
-      let one = hand_outs.handed_out call AreAlike answers connected.session.subscription connected.session.membership a a' b b' connected.session.window h.1 k.1 xs ys h.0 k.0 alike h.2 k.2 in
+      let one = hand_outs.handed_out call AreAlike answers (hand_out_terms connected) connected.session.membership a a' b b' connected.session.window h.1 k.1 xs ys h.0 k.0 alike h.2 k.2 in
       (one.0, h.3 ∙ (λ i. Connected (after_hand_out connected (one.1 i) (one.2 i))) ∙ sym k.3, one.3)
   handed Ended a a' b b' xs ys s t alike h k = (h.0 ∙ sym k.0, h.1 ∙ sym k.1, calls.still call AreAlike answers a a' b b' alike h.2 k.2)
 

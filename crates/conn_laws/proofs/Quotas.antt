@@ -20,6 +20,7 @@ use Rattle.conn_supply.specs.declared.reply.Then.{Then}
 use Rattle.conn_supply.specs.declared.reply.Then.TheVariants.{Go, Close, Kicked}
 use Rattle.conn_supply.specs.declared.reply.Reply.{Reply}
 use Rattle.conn_supply.specs.Acknowledging.{AcknowledgesFor}
+use Rattle.conn_rules.specs.declared.hand_outs.HandOutTerms.{HandOutTerms}
 use Rattle.conn_supply.specs.SupplyCalls.{SupplyCall}
 use Rattle.conn_supply.specs.HandOuts.{SendsAgain, SendsFresh, HandsFresh}
 use Rattle.conn_engine.specs.declared.input.Input.{Input}
@@ -32,7 +33,7 @@ use Rattle.conn_engine.specs.declared.phase.ConnPhase.TheVariants.{Unconnected, 
 use Rattle.conn_engine.specs.Answering.{Answers, Disconnects, DisconnectsIf}
 use Rattle.conn_engine.specs.Connecting.{Accepts, AttachedAs, ResumesAs, WaitsAs}
 use Rattle.conn_laws.specs.Quotas.{quota_of, KeepsQuota, IsWithinQuota}
-use Rattle.conn_engine.specs.Step.{hearing, IsRefusedIf, WaitsForConnect, AnswersFirst, Concludes, AnswersPacket, IsHeard, AnswersUnlessKicked, Reacts, Hands, Steps}
+use Rattle.conn_engine.specs.Step.{hand_out_terms, hearing, IsRefusedIf, WaitsForConnect, AnswersFirst, Concludes, AnswersPacket, IsHeard, AnswersUnlessKicked, Reacts, Hands, Steps}
 
 -- one packet more, where the quota lets it
 one_owed : (quota : ℕ) (window : Contents Held) (entry : ℕ × Held) → KeepsQuota quota window → HasQuota window → length (window.owed ++ entry ∷ []) ≤ quota
@@ -64,19 +65,19 @@ same : {P : Type 0} (connected connected' : ConnectedClient P) → connected' �
 same connected connected' is keeps = subst (λ l. IsWithinQuota (Connected l)) (sym is) keeps
 
 module _ {S P : Type 0} (call : S → SupplyCall P → S → Type 0) (slot_of : P → ℕ) where
-  fresh : (subscription : Option ℕ) (sent : List Packet) (quota : ℕ) (old new : S) (place place' : P) (window window' : Contents Held) → SendsFresh call subscription old place window sent place' window' new
+  fresh : (terms : HandOutTerms) (sent : List Packet) (quota : ℕ) (old new : S) (place place' : P) (window window' : Contents Held) → SendsFresh call terms old place window sent place' window' new
       → KeepsQuota quota window → KeepsQuota quota window'
-  fresh subscription [] quota old new place place' window window' sends keeps = subst (KeepsQuota quota) (sym sends.0) keeps
-  fresh subscription (packet ∷ packets) quota old new place place' window window' sends keeps =
+  fresh terms [] quota old new place place' window window' sends keeps = subst (KeepsQuota quota) (sym sends.0) keeps
+  fresh terms (packet ∷ packets) quota old new place place' window window' sends keeps =
       let one = sends.3 in
-      fresh subscription packets quota sends.2 new sends.0 place' sends.1 window' sends.4
-      (subst (KeepsQuota quota) (sym one.put) (put quota window one.identifier (under subscription one.envelope) keeps one.room.0))
+      fresh terms packets quota sends.2 new sends.0 place' sends.1 window' sends.4
+      (subst (KeepsQuota quota) (sym one.put) (put quota window one.identifier (under terms.subscription one.envelope) keeps one.room.0))
 
-  handed_fresh : (subscription : Option ℕ) (membership : Membership P) (quota : ℕ) (old new : S) (window window' : Contents Held) (sent : List Packet) (membership' : Membership P)
-      → HandsFresh call subscription old membership window sent membership' window' new → KeepsQuota quota window → KeepsQuota quota window'
-  handed_fresh subscription NotMember quota old new window window' sent membership' hands keeps = subst (KeepsQuota quota) (sym hands.2) keeps
-  handed_fresh subscription (Member place) quota old new window window' sent membership' hands keeps = fresh subscription sent quota old new place hands.0 window window' hands.2 keeps
-  handed_fresh subscription (Leaving place) quota old new window window' sent membership' hands keeps = subst (KeepsQuota quota) (sym hands.1) keeps
+  handed_fresh : (terms : HandOutTerms) (membership : Membership P) (quota : ℕ) (old new : S) (window window' : Contents Held) (sent : List Packet) (membership' : Membership P)
+      → HandsFresh call terms old membership window sent membership' window' new → KeepsQuota quota window → KeepsQuota quota window'
+  handed_fresh terms NotMember quota old new window window' sent membership' hands keeps = subst (KeepsQuota quota) (sym hands.2) keeps
+  handed_fresh terms (Member place) quota old new window window' sent membership' hands keeps = fresh terms sent quota old new place hands.0 window window' hands.2 keeps
+  handed_fresh terms (Leaving place) quota old new window window' sent membership' hands keeps = subst (KeepsQuota quota) (sym hands.1) keeps
 
   handed : (phase phase' : ConnPhase P) (old new : S) (sent : List Packet) → Hands call slot_of old phase sent phase' new → IsWithinQuota phase → IsWithinQuota phase'
   handed (Unconnected opened) phase' old new sent hands within = subst IsWithinQuota (sym hands.1) tt
@@ -84,7 +85,7 @@ module _ {S P : Type 0} (call : S → SupplyCall P → S → Type 0) (slot_of : 
   handed (Connected connected) phase' old new sent hands within =
       let out = hands.2 in
       subst IsWithinQuota (sym hands.3)
-      (handed_fresh connected.session.subscription connected.session.membership (quota_of connected.terms) old new out.between hands.1 out.fresh hands.0 out.sent_fresh
+      (handed_fresh (hand_out_terms connected) connected.session.membership (quota_of connected.terms) old new out.between hands.1 out.fresh hands.0 out.sent_fresh
       (again out.again (quota_of connected.terms) connected.session.window out.between out.sent_again within))
   handed Ended phase' old new sent hands within = ended phase' hands.1
 

@@ -51,11 +51,11 @@ use Rattle.conn_laws.proofs.Stepping.{none_before}
 use Rattle.conn_laws.proofs.Turning.{Apart, apart, apart_one, still, apart_behind, quiet_one, SessionStep, is_at, stays_out, attached, goes_on, handed_in, parted}
 
 module _ {S P : Type 0} (call : S → SupplyCall P → S → Type 0) where
-  -- what is acknowledged is settled, and nothing else is
-  abbrev pub SettlesAs : ConnPhase P → Input → Then → List (Mark Held) → List (SupplyCall P) → Type 0
-  SettlesAs phase input next marks supply_calls =
-      (SettlesOne phase input supply_calls × ((acked : ℕ × ℕ) × (acknowledged_of marks ≡ acked ∷ []) × IsAckedBy input acked))
-      ⊎ (SettlesNone phase input supply_calls next × (acknowledged_of marks ≡ []))
+  -- what is acknowledged is settled, and nothing else is but these discards
+  abbrev pub SettlesAs : ConnPhase P → Input → Then → List (Mark Held) → List (SupplyCall P) → List (Held × Fate) → Type 0
+  SettlesAs phase input next marks supply_calls discards =
+      (SettlesOne phase input supply_calls discards × ((acked : ℕ × ℕ) × (acknowledged_of marks ≡ acked ∷ []) × IsAckedBy input acked))
+      ⊎ (SettlesNone phase input supply_calls next discards × (acknowledged_of marks ≡ []))
 
   -- a PUBACK for what the session holds comes only in a step by which the connection is taken over
   abbrev NoneUnless : ConnPhase P → Input → Then → Type 0
@@ -70,7 +70,7 @@ module _ {S P : Type 0} (call : S → SupplyCall P → S → Type 0) where
     pub supply_calls : List (SupplyCall P)
     pub made : MakesAll call old supply_calls new
     pub hands : handed supply_calls ≡ []
-    pub settles : SettlesAs phase input next marks supply_calls
+    pub settles : SettlesAs phase input next marks supply_calls []
 
   session_steps : (old new : S) (number : ℕ) (phase : ConnPhase P) (input : Input) (next : Then) (phase' : ConnPhase P) → NoneUnless phase input next
       → SessionStep call old number (connected_of phase) (connected_of phase') new → SessionStepped old number phase input next phase' new

@@ -1,5 +1,5 @@
 -- What was given back is handed out first, among the calls of a step that wants memory.
-use Rattle.std.proofs.Common.{Option, ℕ, false, List, [], ◌∷◌, Some, inl, inr, ⊎_elim, is_some}
+use Rattle.std.proofs.Common.{ℕ, false, List, [], ◌∷◌, Some, inl, inr, ⊎_elim}
 use Rattle.mqtt_packet.specs.declared.packet.Packet.{Packet}
 use Rattle.mqtt_packet.specs.declared.packet.Packet.TheVariants as packets
 use Rattle.mqtt_packet.specs.declared.packet.Publish.{Publish}
@@ -8,6 +8,7 @@ use Rattle.group_jobs.specs.Stamps.{Held, under}
 use Rattle.member_window.specs.Contents.{Contents, after_put}
 use Rattle.session_desk.specs.declared.session.Membership.{Membership}
 use Rattle.conn_rules.specs.Publishing.{message_of}
+use Rattle.conn_rules.specs.declared.hand_outs.HandOutTerms.{HandOutTerms}
 use Rattle.conn_supply.specs.SupplyCalls.{SupplyCall}
 use Rattle.conn_supply.specs.SupplyCalls.SupplyCall.{Match, Offer, Withdraw, Kicked}
 use Rattle.conn_supply.specs.HandOuts.{IsRefused, TakesSome, HandsSome}
@@ -18,10 +19,10 @@ use Rattle.conn_engine.specs.declared.phase.ConnectedClient.{ConnectedClient}
 use Rattle.conn_engine.specs.declared.phase.ConnPhase.{ConnPhase}
 use Rattle.conn_engine.specs.declared.phase.ConnPhase.TheVariants.{Unconnected, Waiting, Connected, Ended}
 use Rattle.conn_engine.specs.Answering.{FailsToAnswer}
-use Rattle.conn_engine.specs.Step.{hearing, after_hand_out, GivesUp, ShutsDown, CutsOff, FailsToReact, HandsLess, FailsToHand, FailsToStep}
+use Rattle.conn_engine.specs.Step.{hearing, after_hand_out, hand_out_terms, GivesUp, ShutsDown, CutsOff, FailsToReact, HandsLess, FailsToHand, FailsToStep}
 use Rattle.conn_laws.specs.ReturnedFirst.{CallsReturnedFirst}
 use Rattle.conn_laws.proofs.Calling.{parted, swept, failed_to_attach, failed_again, some_answered}
-use Rattle.conn_laws.proofs.ReturnedFirst.{none, one, behind, plain, asked_for, reacts}
+use Rattle.conn_laws.proofs.ReturnedFirst.{none, one, behind, plain, discarded_all, allowed_and_asked, reacts}
 
 module _ {S P : Type 0} (call : S → SupplyCall P → S → Type 0) where
   -- a message is offered to some groups
@@ -44,19 +45,24 @@ module _ {S P : Type 0} (call : S → SupplyCall P → S → Type 0) where
   refused old new place place' (inl at_once) = one call old new _ at_once.1 tt
   refused old new place place' (inr later) = behind call old later.2 new (one call old later.2 _ later.3 tt) (one call later.2 new _ later.4 tt)
 
-  taken : (subscription : Option ℕ) (envelopes : List Held) (old new : S) (place place' : P) (window window' : Contents Held) → TakesSome call subscription old place window envelopes place' window' new
+  taken : (terms : HandOutTerms) (envelopes : List Held) (old new : S) (place place' : P) (window window' : Contents Held) → TakesSome call terms old place window envelopes place' window' new
       → CallsReturnedFirst call old new
-  taken subscription [] old new place place' window window' (same, inl nothing) = none call old new nothing.1
-  taken subscription [] old new place place' window window' (same, inr stop) = behind call old old new (one call old old _ stop.1 tt) (refused old new place place' stop.2)
-  taken subscription (envelope ∷ envelopes) old new place place' window window' takes =
-      behind call old old new (one call old old _ takes.3 tt) (
-      behind call old takes.2 new (asked_for call (Some envelope) old takes.2 place takes.1 takes.4)
-      (taken subscription envelopes takes.2 new takes.1 place' (after_put window takes.0 (under subscription envelope)) window' takes.7))
+  taken terms [] old new place place' window window' (same, inl nothing) = none call old new nothing.1
+  taken terms [] old new place place' window window' (same, inr stop) =
+      let cut = stop.1 in
+      behind call old cut.mid new (discarded_all call terms cut.discarded old cut.mid place cut.between cut.passed)
+      (behind call cut.mid cut.mid new (one call cut.mid cut.mid _ cut.allowed tt) (refused cut.mid new cut.between place' cut.refused))
+  taken terms (envelope ∷ envelopes) old new place place' window window' takes =
+      let first = takes.3 in
+      behind call old takes.2 new
+      (behind call old first.mid takes.2 (discarded_all call terms first.discarded old first.mid place first.between first.passed)
+      (allowed_and_asked call (Some envelope) first.mid takes.2 first.between takes.1 first.allowed first.asked))
+      (taken terms envelopes takes.2 new takes.1 place' (after_put window takes.0 (under terms.subscription envelope)) window' takes.6)
 
-  handed_some : (subscription : Option ℕ) (old new : S) (membership : Membership P) (window : Contents Held) (membership' : Membership P) (window' : Contents Held)
-      → HandsSome call subscription old membership window membership' window' new → CallsReturnedFirst call old new
-  handed_some subscription old new membership window membership' window' (inl nothing) = none call old new nothing.3
-  handed_some subscription old new membership window membership' window' (inr some) = taken subscription some.3 old new some.0 some.1 some.2 window' some.7
+  handed_some : (terms : HandOutTerms) (old new : S) (membership : Membership P) (window : Contents Held) (membership' : Membership P) (window' : Contents Held)
+      → HandsSome call terms old membership window membership' window' new → CallsReturnedFirst call old new
+  handed_some terms old new membership window membership' window' (inl nothing) = none call old new nothing.3
+  handed_some terms old new membership window membership' window' (inr some) = taken terms some.3 old new some.0 some.1 some.2 window' some.7
 
   module _ (slot_of : P → ℕ) where
     given_up : (phase : ConnPhase P) (old new : S) (number now : ℕ) → GivesUp call slot_of old number phase now new → CallsReturnedFirst call old new
@@ -102,7 +108,7 @@ module _ {S P : Type 0} (call : S → SupplyCall P → S → Type 0) where
 
     handed_less : (between : ConnPhase P) (old new : S) (now : ℕ) → HandsLess call slot_of old between now new → CallsReturnedFirst call old new
     handed_less (Connected connected) old new now hands =
-        behind call old hands.2 new (handed_some connected.session.subscription old hands.2 connected.session.membership connected.session.window hands.0 hands.1 hands.3)
+        behind call old hands.2 new (handed_some (hand_out_terms connected) old hands.2 connected.session.membership connected.session.window hands.0 hands.1 hands.3)
         (plain call hands.2 new (parted call hands.2 new (after_hand_out connected hands.0 hands.1).session now hands.4))
     handed_less other old new now hands = absurd hands
 

@@ -1,5 +1,5 @@
 -- What a step sends: small packets, CONNACKs that assign an identifier, and messages that are handed on.
-use Rattle.std.proofs.Common.{◌≡◌, ℕ, suc, ◌≤◌, Bool, true, false, List, [], ◌∷◌, ◌++◌, length, Option, Some, None, Result, Ok, Err, refl, sym, ap, subst, ◌∙◌, arith, inl, inr, if◌then◌else◌, is_some, nat_lt, not, ◌&&◌, ltb-false}
+use Rattle.std.proofs.Common.{◌≡◌, ℕ, suc, ◌≤◌, Bool, true, false, List, [], ◌∷◌, ◌++◌, length, Option, Some, None, Result, Ok, Err, refl, sym, ap, subst, ◌∙◌, arith, inl, inr, if◌then◌else◌, nat_lt, not, ◌&&◌, ltb-false}
 use Rattle.std.specs.List.{AllByRecursion}
 use Rattle.std.specs.Option.{option_to_list}
 use Rattle.mqtt_packet.specs.Texts.{is_text}
@@ -32,6 +32,7 @@ use Rattle.conn_rules.specs.Publishing.{publish_answer}
 use Rattle.conn_rules.specs.Subscribing.{most_entries, subscribe_refusal, unsubscribe_refusal}
 use Rattle.conn_supply.specs.declared.reply.Then.{Then}
 use Rattle.conn_supply.specs.declared.reply.Reply.{Reply}
+use Rattle.conn_rules.specs.declared.hand_outs.HandOutTerms.{HandOutTerms}
 use Rattle.conn_supply.specs.SupplyCalls.{SupplyCall}
 use Rattle.conn_supply.specs.HandOuts.{SendsAgain, SendsFresh, HandsFresh}
 use Rattle.conn_supply.specs.Publishing.{AnswersPublish}
@@ -45,7 +46,7 @@ use Rattle.conn_engine.specs.declared.phase.ConnPhase.{ConnPhase}
 use Rattle.conn_engine.specs.declared.phase.ConnPhase.TheVariants.{Unconnected, Waiting, Connected, Ended}
 use Rattle.conn_engine.specs.Answering.{DisconnectsIf, Disconnects, Answers}
 use Rattle.conn_engine.specs.Connecting.{assigned, name_if, has_place, most_ticks, IsRefused, Accepts, WaitsAs, ResumesAs, AttachedAs}
-use Rattle.conn_engine.specs.Step.{hearing, IsClosed, IsRefusedIf, WaitsForConnect, AnswersFirst, AnswersPacket, AnswersTick, AnswersUnlessKicked, IsHeard, Reacts, Hands, Steps}
+use Rattle.conn_engine.specs.Step.{hand_out_terms, hearing, IsClosed, IsRefusedIf, WaitsForConnect, AnswersFirst, AnswersPacket, AnswersTick, AnswersUnlessKicked, IsHeard, Reacts, Hands, Steps}
 use Rattle.conn_laws.specs.Sizes.{IsSmall, IsShort, HandsOn, IsAnswer, IsAnswerUnlessHandedOn, IsShortUnlessHandedOn}
 use Rattle.conn_laws.proofs.Replies as replies
 
@@ -283,19 +284,19 @@ module _ {S P : Type 0} (call : S → SupplyCall P → S → Type 0) (slot_of : 
 
   -- ---- what is handed out after the reply
 
-  fresh : (subscription : Option ℕ) (sent : List Packet) (old new : S) (place place' : P) (window window' : Contents Held) → SendsFresh call subscription old place window sent place' window' new → HandOn sent
-  fresh subscription [] old new place place' window window' sends = tt
-  fresh subscription (packet ∷ packets) old new place place' window window' sends =
+  fresh : (terms : HandOutTerms) (sent : List Packet) (old new : S) (place place' : P) (window window' : Contents Held) → SendsFresh call terms old place window sent place' window' new → HandOn sent
+  fresh terms [] old new place place' window window' sends = tt
+  fresh terms (packet ∷ packets) old new place place' window window' sends =
       let hand_out = sends.3 in (
-        record { dup = false; message = hand_out.envelope.message; subscription = subscription; identifier = hand_out.identifier; is = hand_out.sent },
-        fresh subscription packets sends.2 new sends.0 place' sends.1 window' sends.4,
+        record { dup = false; message = hand_out.envelope.message; subscription = terms.subscription; identifier = hand_out.identifier; is = hand_out.sent },
+        fresh terms packets sends.2 new sends.0 place' sends.1 window' sends.4,
       )
 
-  handed_fresh : (subscription : Option ℕ) (membership : Membership P) (old new : S) (window window' : Contents Held) (sent : List Packet) (membership' : Membership P)
-      → HandsFresh call subscription old membership window sent membership' window' new → HandOn sent
-  handed_fresh subscription NotMember old new window window' sent membership' hands = subst HandOn (sym hands.0) tt
-  handed_fresh subscription (Member place) old new window window' sent membership' hands = fresh subscription sent old new place hands.0 window window' hands.2
-  handed_fresh subscription (Leaving place) old new window window' sent membership' hands = subst HandOn (sym hands.0) tt
+  handed_fresh : (terms : HandOutTerms) (membership : Membership P) (old new : S) (window window' : Contents Held) (sent : List Packet) (membership' : Membership P)
+      → HandsFresh call terms old membership window sent membership' window' new → HandOn sent
+  handed_fresh terms NotMember old new window window' sent membership' hands = subst HandOn (sym hands.0) tt
+  handed_fresh terms (Member place) old new window window' sent membership' hands = fresh terms sent old new place hands.0 window window' hands.2
+  handed_fresh terms (Leaving place) old new window window' sent membership' hands = subst HandOn (sym hands.0) tt
 
   handed : (phase phase' : ConnPhase P) (old new : S) (sent : List Packet) → Hands call slot_of old phase sent phase' new → HandOn sent
   handed (Unconnected opened) phase' old new sent hands = subst HandOn (sym hands.0) tt
@@ -304,7 +305,7 @@ module _ {S P : Type 0} (call : S → SupplyCall P → S → Type 0) (slot_of : 
       let out = hands.2 in
       subst HandOn (sym out.both)
       (both HandsOn out.again out.fresh (again out.again connected.session.window out.between out.sent_again)
-      (handed_fresh connected.session.subscription connected.session.membership old new out.between hands.1 out.fresh hands.0 out.sent_fresh))
+      (handed_fresh (hand_out_terms connected) connected.session.membership old new out.between hands.1 out.fresh hands.0 out.sent_fresh))
   handed Ended phase' old new sent hands = subst HandOn (sym hands.0) tt
 
   -- ---- a step

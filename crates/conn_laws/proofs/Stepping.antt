@@ -1,7 +1,6 @@
 -- A step is a list of calls.
 use Rattle.std.proofs.Common.{◌≡◌, ℕ, ◌-◌, Bool, true, false, List, [], ◌∷◌, ◌++◌, map, filter_map, Option, Some, None, ◌⊎◌, refl, sym, ap, subst, ◌∙◌, append-nil, inl, inr, ⊎_elim}
 use Rattle.std.specs.List.{AllByRecursion}
-use Rattle.std.proofs.lemmas.List.{map-append}
 use Rattle.std.proofs.lemmas.List.Elements.{filter_map-append}
 use Rattle.mqtt_packet.specs.declared.packet.ConnectRefusal.{ConnectRefusal}
 use Rattle.mqtt_packet.specs.declared.packet.Packet.{Packet}
@@ -42,13 +41,13 @@ use Rattle.conn_engine.specs.declared.phase.ConnPhase.TheVariants.{Unconnected, 
 use Rattle.conn_engine.specs.Answering.{DisconnectsIf, Disconnects, Answers}
 use Rattle.conn_engine.specs.Connecting.{has_place}
 use Rattle.conn_laws.specs.Places.{own_places, IsMemberWith, KeepsPlaces, KeepsInTurn}
-use Rattle.conn_laws.specs.Calls.{offer_of, match_of, settlement_of, hand_out_of, offered, matched, settled, handed, messages_of, fresh_messages, IsToBeOffered, Brings, Confirms, OffersToEach, OffersNone, SettlesOne, SettlesNone, AsksForMessage, HandsOutLast, MakesAll, StepCalls}
+use Rattle.conn_laws.specs.Calls.{offer_of, match_of, settlement_of, hand_out_of, offered, matched, settled, handed, Outcome, hand_outs_of, sent_of, discards_of, AreSentIfFit, messages_of, fresh_messages, IsToBeOffered, Brings, Confirms, OffersToEach, OffersNone, SettlesOne, SettlesNone, AsksForMessage, HandsOutLast, MakesAll, StepCalls}
 use Rattle.conn_supply.specs.Publishing.{Offers, AnswersPublish}
-use Rattle.conn_engine.specs.Step.{hearing, IsRefusedIf, WaitsForConnect, AnswersFirst, Concludes, AnswersPacket, AnswersTick, IsHeard, IsKicked, AnswersUnlessKicked, Reacts, Hands, Steps}
+use Rattle.conn_engine.specs.Step.{hearing, hand_out_terms, IsRefusedIf, WaitsForConnect, AnswersFirst, Concludes, AnswersPacket, AnswersTick, IsHeard, IsKicked, AnswersUnlessKicked, Reacts, Hands, Steps}
 use Rattle.conn_laws.proofs.Replying.{replied_and_sent}
 use Rattle.conn_laws.proofs.KeptPlaces.{kept_by_none, kept_by_one, kept_by_both, kept_beside}
-use Rattle.conn_laws.proofs.HandingOut.{AsksOnlyFor}
-use Rattle.conn_laws.proofs.Calling.{Plain, becomes, beside, still, one, behind, joins, parted, swept, attached, tried_again, handed_out, subscribed_as, unsubscribed_as}
+use Rattle.conn_laws.proofs.HandingOut.{AsksOnlyFor, handed_out}
+use Rattle.conn_laws.proofs.Calling.{Plain, becomes, beside, still, plain as plain_calls, one, behind, joins, parted, swept, attached, tried_again, subscribed_as, unsubscribed_as}
 
 -- nothing more is found after or before
 pub none_behind : {P X : Type 0} (find : SupplyCall P → Option X) (supply_calls others : List (SupplyCall P)) (xs : List X) → filter_map find supply_calls ≡ xs → filter_map find others ≡ [] → filter_map find (supply_calls ++ others) ≡ xs
@@ -57,56 +56,62 @@ none_behind find supply_calls others xs these none = filter_map-append find supp
 pub none_before : {P X : Type 0} (find : SupplyCall P → Option X) (supply_calls others : List (SupplyCall P)) (xs : List X) → filter_map find supply_calls ≡ [] → filter_map find others ≡ xs → filter_map find (supply_calls ++ others) ≡ xs
 none_before find supply_calls others xs none those = filter_map-append find supply_calls others ∙ (λ i. none i ++ those i)
 
--- what is handed out by these calls, and then by those
-pub hands_both : {P : Type 0} (supply_calls others : List (SupplyCall P)) (given more : List Message) → messages_of (handed supply_calls) ≡ given → messages_of (handed others) ≡ more
-    → messages_of (handed (supply_calls ++ others)) ≡ given ++ more
-hands_both {P} supply_calls others given more these those =
-    ap messages_of (filter_map-append hand_out_of supply_calls others) ∙ map-append (λ (h : P × Held). h.1.message) (handed supply_calls) (handed others) ∙ (λ i. these i ++ those i)
-
--- of no message nothing is handed out
-pub none_of_none : {P : Type 0} (hand_outs : List (P × Held)) → messages_of hand_outs ≡ [] → hand_outs ≡ []
-none_of_none [] none = refl
-none_of_none (hand_out ∷ hand_outs) none = absurd (let never : hand_out.1.message ∷ messages_of hand_outs ≡ [] = none in cc)
+-- where the connection has ended nothing is handed out
+pub none_at_the_end : {P : Type 0} (phase : ConnPhase P) (supply_calls : List (SupplyCall P)) (outcomes : List (Outcome P)) → phase ≡ Ended → AreSentIfFit phase outcomes
+    → handed supply_calls ≡ hand_outs_of outcomes → handed supply_calls ≡ []
+none_at_the_end phase supply_calls outcomes over fit is = is ∙ ap hand_outs_of (subst (λ s. AreSentIfFit s outcomes) over fit)
 
 module _ {S P : Type 0} (call : S → SupplyCall P → S → Type 0) where
-  -- the calls of a step, by which these messages are handed out, and after which the connection has these places
-  pub record Walked (given : List Message) (old : S) (number : ℕ) (phase : ConnPhase P) (input : Input) (next : Then) (after : List P) (new : S) : Type 0 where
+  -- the calls of a step, by which these messages are handed out, and those discarded, and after which the connection has these places
+  pub record Walked (given : List (P × Held)) (discards : List (Held × Fate)) (old : S) (number : ℕ) (phase : ConnPhase P) (input : Input) (next : Then) (after : List P) (new : S) : Type 0 where
     pub supply_calls : List (SupplyCall P)
     pub made : MakesAll call old supply_calls new
     pub offers : OffersToEach number input supply_calls ⊎ OffersNone phase input supply_calls next
-    pub settles : SettlesOne phase input supply_calls ⊎ SettlesNone phase input supply_calls next
-    pub hands : messages_of (handed supply_calls) ≡ given
+    pub settles : SettlesOne phase input supply_calls discards ⊎ SettlesNone phase input supply_calls next discards
+    pub hands : handed supply_calls ≡ given
     pub places : KeepsPlaces (own_places phase) supply_calls after
 
   -- all calls of a step, of which the last hand out
-  record All (given : List Message) (old : S) (number : ℕ) (phase : ConnPhase P) (input : Input) (next : Then) (phase' : ConnPhase P) (new : S) : Type 0 where
-    pub calls : Walked given old number phase input next (own_places phase') new
+  record All (given : List (P × Held)) (discards : List (Held × Fate)) (old : S) (number : ℕ) (phase : ConnPhase P) (input : Input) (next : Then) (phase' : ConnPhase P) (new : S) : Type 0 where
+    pub calls : Walked given discards old number phase input next (own_places phase') new
     pub hands_last : HandsOutLast phase calls.supply_calls phase'
 
   -- what is handed out behind the reply, to the place that there is then
-  pub record HandsBehind (given : List Message) (between : ConnPhase P) (old : S) (phase : ConnPhase P) (new : S) : Type 0 where
-    pub calls : Plain call given (own_places between) (own_places phase) old new
+  pub record HandsBehind (sent : List Packet) (between : ConnPhase P) (old : S) (phase : ConnPhase P) (new : S) : Type 0 where
+    pub outcomes : List (Outcome P)
+    pub calls : Plain call (hand_outs_of outcomes) (discards_of outcomes) (own_places between) (own_places phase) old new
+    pub fit : AreSentIfFit phase outcomes
+    pub messages : fresh_messages sent ≡ messages_of (sent_of outcomes)
     pub to_one : (handed calls.supply_calls ≡ [])
         ⊎ ((place place' : P) × (own_places between ≡ place ∷ []) × KeepsInTurn (place ∷ []) calls.supply_calls (place' ∷ []) × AllByRecursion AsksForMessage calls.supply_calls × IsMemberWith phase place')
 
-  none_behind_it : (between : ConnPhase P) (old new : S) (sent : List Packet) (phase : ConnPhase P) → (sent ≡ []) × (phase ≡ between) × (new ≡ old) → HandsBehind (fresh_messages sent) between old phase new
+  none_fit : (phase : ConnPhase P) → AreSentIfFit phase []
+  none_fit (Unconnected opened) = refl
+  none_fit (Waiting request ticks) = refl
+  none_fit (Connected connected) = tt
+  none_fit Ended = refl
+
+  none_behind_it : (between : ConnPhase P) (old new : S) (sent : List Packet) (phase : ConnPhase P) → (sent ≡ []) × (phase ≡ between) × (new ≡ old) → HandsBehind sent between old phase new
   none_behind_it between old new sent phase hands =
-      subst (λ given. HandsBehind given between old phase new) (sym (ap fresh_messages hands.0))
+      subst (λ packets. HandsBehind packets between old phase new) (sym hands.0)
       (subst (λ after. HandsBehind [] between old after new) (sym hands.1)
       (record {
+        outcomes = [];
         calls = record { supply_calls = []; made = hands.2; match = refl; offers = refl; settles = refl; hands = refl; places = kept_by_none (own_places between) };
+        fit = none_fit between;
+        messages = refl;
         to_one = inl refl;
       }))
 
   -- the places after it, said otherwise
-  comes_to : {given : List Message} {old new : S} {number : ℕ} {phase : ConnPhase P} {input : Input} {next : Then} {after after' : List P} → after' ≡ after
-      → Walked given old number phase input next after new → Walked given old number phase input next after' new
-  comes_to {given} {old} {new} {number} {phase} {input} {next} same calls = subst (λ places. Walked given old number phase input next places new) (sym same) calls
+  comes_to : {given : List (P × Held)} {discards : List (Held × Fate)} {old new : S} {number : ℕ} {phase : ConnPhase P} {input : Input} {next : Then} {after after' : List P} → after' ≡ after
+      → Walked given discards old number phase input next after new → Walked given discards old number phase input next after' new
+  comes_to {given} {discards} {old} {new} {number} {phase} {input} {next} same calls = subst (λ places. Walked given discards old number phase input next places new) (sym same) calls
 
   -- a step that brings and acknowledges nothing
-  plain : {after : List P} (old new : S) (number : ℕ) (phase : ConnPhase P) (input : Input) (next : Then) → Plain call [] (own_places phase) after old new
+  plain : {after : List P} (old new : S) (number : ℕ) (phase : ConnPhase P) (input : Input) (next : Then) → Plain call [] [] (own_places phase) after old new
       → ((publish : Publish) → Brings phase input publish → next ≡ Kicked) → ((envelope : Held) (fate : Fate) → Confirms phase input envelope fate → next ≡ Kicked)
-      → Walked [] old number phase input next after new
+      → Walked [] [] old number phase input next after new
   plain old new number phase input next calls none_brought none_acknowledged =
       record {
         supply_calls = calls.supply_calls;
@@ -118,9 +123,9 @@ module _ {S P : Type 0} (call : S → SupplyCall P → S → Type 0) where
       }
 
   -- a step of an input by which nothing could be brought or acknowledged
-  idle : {after : List P} (old new : S) (number : ℕ) (phase : ConnPhase P) (input : Input) (next : Then) → Plain call [] (own_places phase) after old new
+  idle : {after : List P} (old new : S) (number : ℕ) (phase : ConnPhase P) (input : Input) (next : Then) → Plain call [] [] (own_places phase) after old new
       → ((publish : Publish) → Brings phase input publish → ⊥) × ((envelope : Held) (fate : Fate) → Confirms phase input envelope fate → ⊥)
-      → Walked [] old number phase input next after new
+      → Walked [] [] old number phase input next after new
   idle old new number phase input next calls never =
       plain old new number phase input next calls (λ publish brings. absurd (never.0 publish brings)) (λ envelope fate confirms. absurd (never.1 envelope fate confirms))
 
@@ -139,16 +144,17 @@ module _ {S P : Type 0} (call : S → SupplyCall P → S → Type 0) where
   offers_alike number phase input next supply_calls all same_matches same_offers (inr none) =
       inr (record { match = same_matches ∙ none.match; offers = same_offers ∙ none.offers; unless = none.unless })
 
-  pub settles_alike : (phase : ConnPhase P) (input : Input) (next : Then) (supply_calls all : List (SupplyCall P)) → settled all ≡ settled supply_calls
-      → SettlesOne phase input supply_calls ⊎ SettlesNone phase input supply_calls next → SettlesOne phase input all ⊎ SettlesNone phase input all next
-  settles_alike phase input next supply_calls all same (inl only) =
-      inl (record { envelope = only.envelope; fate = only.fate; confirmed = only.confirmed; settles = same ∙ only.settles })
-  settles_alike phase input next supply_calls all same (inr none) = inr (record { settles = same ∙ none.settles; unless = none.unless })
+  pub settles_alike : (phase : ConnPhase P) (input : Input) (next : Then) (supply_calls all : List (SupplyCall P)) (discards : List (Held × Fate)) → settled all ≡ settled supply_calls ++ discards
+      → SettlesOne phase input supply_calls [] ⊎ SettlesNone phase input supply_calls next [] → SettlesOne phase input all discards ⊎ SettlesNone phase input all next discards
+  settles_alike phase input next supply_calls all discards same (inl only) =
+      inl (record { envelope = only.envelope; fate = only.fate; confirmed = only.confirmed; settles = same ∙ ap (λ (l : List (Held × Fate)). l ++ discards) only.settles })
+  settles_alike phase input next supply_calls all discards same (inr none) =
+      inr (record { settles = same ∙ ap (λ (l : List (Held × Fate)). l ++ discards) none.settles; unless = none.unless })
 
-  -- calls after those of a step, or before them, by which nothing is offered or settled
-  abbrev pub further : {between after : List P} (more : List Message) (old mid new : S) (number : ℕ) (phase : ConnPhase P) (input : Input) (next : Then)
-      → Walked [] old number phase input next between mid → Plain call more between after mid new → Walked more old number phase input next after new
-  further {between} {after} more old mid new number phase input next calls others =
+  -- calls after those of a step, or before them, by which nothing is offered, and nothing settled but what is discarded
+  abbrev pub further : {discards : List (Held × Fate)} {between after : List P} (more : List (P × Held)) (old mid new : S) (number : ℕ) (phase : ConnPhase P) (input : Input) (next : Then)
+      → Walked [] [] old number phase input next between mid → Plain call more discards between after mid new → Walked more discards old number phase input next after new
+  further {discards} {between} {after} more old mid new number phase input next calls others =
       let all = calls.supply_calls ++ others.supply_calls in
       record {
         supply_calls = all;
@@ -156,13 +162,15 @@ module _ {S P : Type 0} (call : S → SupplyCall P → S → Type 0) where
         offers =
             offers_alike number phase input next calls.supply_calls all (none_behind match_of calls.supply_calls others.supply_calls _ refl others.match)
             (none_behind offer_of calls.supply_calls others.supply_calls _ refl others.offers) calls.offers;
-        settles = settles_alike phase input next calls.supply_calls all (none_behind settlement_of calls.supply_calls others.supply_calls _ refl others.settles) calls.settles;
-        hands = hands_both calls.supply_calls others.supply_calls [] more calls.hands others.hands;
+        settles =
+            settles_alike phase input next calls.supply_calls all discards
+            (filter_map-append settlement_of calls.supply_calls others.supply_calls ∙ ap (λ (l : List (Held × Fate)). settled calls.supply_calls ++ l) others.settles) calls.settles;
+        hands = filter_map-append hand_out_of calls.supply_calls others.supply_calls ∙ (λ i. calls.hands i ++ others.hands i);
         places = kept_by_both (own_places phase) between after calls.supply_calls others.supply_calls calls.places others.places;
       }
 
-  earlier : {after : List P} (old mid new : S) (number : ℕ) (phase : ConnPhase P) (input : Input) (next : Then) → Plain call [] (own_places phase) (own_places phase) old mid
-      → Walked [] mid number phase input next after new → Walked [] old number phase input next after new
+  earlier : {after : List P} (old mid new : S) (number : ℕ) (phase : ConnPhase P) (input : Input) (next : Then) → Plain call [] [] (own_places phase) (own_places phase) old mid
+      → Walked [] [] mid number phase input next after new → Walked [] [] old number phase input next after new
   earlier {after} old mid new number phase input next others calls =
       let all = others.supply_calls ++ calls.supply_calls in
       record {
@@ -171,8 +179,10 @@ module _ {S P : Type 0} (call : S → SupplyCall P → S → Type 0) where
         offers =
             offers_alike number phase input next calls.supply_calls all (none_before match_of others.supply_calls calls.supply_calls _ others.match refl)
             (none_before offer_of others.supply_calls calls.supply_calls _ others.offers refl) calls.offers;
-        settles = settles_alike phase input next calls.supply_calls all (none_before settlement_of others.supply_calls calls.supply_calls _ others.settles refl) calls.settles;
-        hands = hands_both others.supply_calls calls.supply_calls [] [] others.hands calls.hands;
+        settles =
+            settles_alike phase input next calls.supply_calls all []
+            (none_before settlement_of others.supply_calls calls.supply_calls _ others.settles refl ∙ sym (append-nil (settled calls.supply_calls))) calls.settles;
+        hands = none_before hand_out_of others.supply_calls calls.supply_calls [] others.hands calls.hands;
         places = kept_by_both (own_places phase) (own_places phase) after others.supply_calls calls.supply_calls others.places calls.places;
       }
 
@@ -183,7 +193,7 @@ module _ {S P : Type 0} (call : S → SupplyCall P → S → Type 0) where
     match : matched supply_calls ≡ []
     offers : offered supply_calls ≡ map (λ slot. (slot, number, message)) slots
     settles : settled supply_calls ≡ []
-    hands : messages_of (handed supply_calls) ≡ []
+    hands : handed supply_calls ≡ []
     places : KeepsPlaces [] supply_calls []
 
   offers_to : (slots : List ℕ) (old new : S) (number : ℕ) (message : Message) (taken : ℕ) → Offers call old number message slots taken new → OffersTo old number message slots new
@@ -202,7 +212,7 @@ module _ {S P : Type 0} (call : S → SupplyCall P → S → Type 0) where
       }
 
   published : (answer : PublishAnswer) (old new : S) (number : ℕ) (connected : ConnectedClient P) (publish : Publish) (reply : Reply) → publish_answer publish ≡ answer
-      → AnswersPublish call old number publish answer reply new → Walked [] old number (Connected connected) (inputs.Packet (packets.Publish publish)) reply.next (own_places (Connected connected)) new
+      → AnswersPublish call old number publish answer reply new → Walked [] [] old number (Connected connected) (inputs.Packet (packets.Publish publish)) reply.next (own_places (Connected connected)) new
   published (answers.Close code) old new number connected publish reply is answers =
       plain old new number (Connected connected) _ reply.next (still call old new refl answers.1) (λ brought brings. absurd (subst IsToBeOffered is brings.1)) (λ envelope fate confirms. absurd confirms)
   published (answers.Refuse identifier code) old new number connected publish reply is answers =
@@ -229,7 +239,7 @@ module _ {S P : Type 0} (call : S → SupplyCall P → S → Type 0) where
   -- a PUBACK for what the session holds, and any other
   settled_as : (found : Option Held) (old new : S) (number : ℕ) (connected : ConnectedClient P) (puback : Puback) (place place' : P) (window' : Contents Held) (next : Then)
       → has_place connected.session.membership ≡ true → place_in connected.session.membership ≡ place ∷ [] → Acks connected.session.window puback.packet_identifier found window'
-      → Settles call old place puback.reason_code found place' new → Walked [] old number (Connected connected) (inputs.Packet (packets.Puback puback)) next (place' ∷ []) new
+      → Settles call old place puback.reason_code found place' new → Walked [] [] old number (Connected connected) (inputs.Packet (packets.Puback puback)) next (place' ∷ []) new
   settled_as (Some envelope) old new number connected puback place place' window' next has places acked settled =
       let only : SupplyCall P = Settle place place' envelope (fate_of puback.reason_code) in
       record {
@@ -246,7 +256,7 @@ module _ {S P : Type 0} (call : S → SupplyCall P → S → Type 0) where
 
   acknowledged_as : (membership : Membership P) (old new : S) (number : ℕ) (connected : ConnectedClient P) (puback : Puback) (membership' : Membership P) (window' : Contents Held) (next : Then)
       → connected.session.membership ≡ membership → AcknowledgesFor call old membership connected.session.window puback.packet_identifier puback.reason_code membership' window' new
-      → Walked [] old number (Connected connected) (inputs.Packet (packets.Puback puback)) next (place_in membership') new
+      → Walked [] [] old number (Connected connected) (inputs.Packet (packets.Puback puback)) next (place_in membership') new
   acknowledged_as NotMember old new number connected puback membership' window' next is does =
       plain old new number (Connected connected) _ next (still call old new (ap place_in does.0 ∙ sym (ap place_in is)) does.2) (λ publish brings. absurd brings)
       (λ envelope fate confirms. let no : true ≡ false = sym confirms.0 ∙ ap has_place is in cc)
@@ -279,7 +289,7 @@ module _ {S P : Type 0} (call : S → SupplyCall P → S → Type 0) where
   module _ (slot_of : P → ℕ) where
     -- the answer to a packet
     answered : (packet : Packet) (old new : S) (number now : ℕ) (connected after : ConnectedClient P) (reply : Reply) → Answers call slot_of old number (hearing connected now) packet after reply new
-        → Walked [] old number (Connected connected) (inputs.Packet packet) reply.next (own_places (Connected after)) new
+        → Walked [] [] old number (Connected connected) (inputs.Packet packet) reply.next (own_places (Connected after)) new
     answered (packets.Publish publish) old new number now connected after reply answers =
         comes_to (alike after _ answers.1) (published (publish_answer publish) old new number connected publish reply refl answers.0)
     answered (packets.Puback puback) old new number now connected after reply answers =
@@ -308,47 +318,47 @@ module _ {S P : Type 0} (call : S → SupplyCall P → S → Type 0) where
 
     -- a taken over connection brings nothing
     kicked : (old new : S) (number : ℕ) (connected : ConnectedClient P) (now : ℕ) (input : Input) (phase : ConnPhase P) (reply : Reply) → IsKicked call slot_of old connected now phase reply new
-        → Walked [] old number (Connected connected) input reply.next (own_places phase) new
+        → Walked [] [] old number (Connected connected) input reply.next (own_places phase) new
     kicked old new number connected now input phase reply is =
         let told : reply.next ≡ Kicked = ap (λ r. r.next) is.0 in
         plain old new number (Connected connected) input reply.next (becomes call (ap own_places is.1.1) (parted call old new connected.session now is.1.0)) (λ publish brings. told) (λ envelope fate confirms. told)
 
     concluded : (next : Then) (old new : S) (connected : ConnectedClient P) (now : ℕ) (phase : ConnPhase P) → Concludes call slot_of old connected now next phase new
-        → Plain call [] (own_places (Connected connected)) (own_places phase) old new
+        → Plain call [] [] (own_places (Connected connected)) (own_places phase) old new
     concluded Go old new connected now phase concludes = still call old new (ap own_places concludes.0) concludes.1
     concluded Close old new connected now phase concludes = becomes call (ap own_places concludes.1) (parted call old new connected.session now concludes.0)
     concluded Kicked old new connected now phase concludes = becomes call (ap own_places concludes.1) (parted call old new connected.session now concludes.0)
 
     packet_answered : (was_kicked : Bool) (old new : S) (number now : ℕ) (connected : ConnectedClient P) (packet : Packet) (phase : ConnPhase P) (reply : Reply)
         → AnswersUnlessKicked call slot_of was_kicked old connected now (AnswersPacket call slot_of old number connected now packet) phase reply new
-        → Walked [] old number (Connected connected) (inputs.Packet packet) reply.next (own_places phase) new
+        → Walked [] [] old number (Connected connected) (inputs.Packet packet) reply.next (own_places phase) new
     packet_answered true old new number now connected packet phase reply is = kicked old new number connected now _ phase reply is
     packet_answered false old new number now connected packet phase reply answers =
         further [] old answers.1 new number (Connected connected) _ reply.next (answered packet old answers.1 number now connected answers.0 reply answers.2)
         (concluded reply.next answers.1 new answers.0 now phase answers.3)
 
     heard : (overdue : Bool) (old new : S) (connected : ConnectedClient P) (now : ℕ) (phase : ConnPhase P) (reply : Reply) → IsHeard call slot_of overdue old connected now phase reply new
-        → Plain call [] (own_places (Connected connected)) (own_places phase) old new
+        → Plain call [] [] (own_places (Connected connected)) (own_places phase) old new
     heard true old new connected now phase reply is = becomes call (ap own_places is.1.1) (parted call old new connected.session now is.1.0)
     heard false old new connected now phase reply is = still call old new (ap own_places is.1) is.2
 
     tick_answered : (was_kicked : Bool) (old new : S) (connected : ConnectedClient P) (now : ℕ) (phase : ConnPhase P) (reply : Reply)
         → AnswersUnlessKicked call slot_of was_kicked old connected now (AnswersTick call slot_of old connected now) phase reply new
-        → Plain call [] (own_places (Connected connected)) (own_places phase) old new
+        → Plain call [] [] (own_places (Connected connected)) (own_places phase) old new
     tick_answered true old new connected now phase reply is = becomes call (ap own_places is.1.1) (parted call old new connected.session now is.1.0)
     tick_answered false old new connected now phase reply answers =
         behind call old answers.0 new (beside call (own_places (Connected connected)) (swept call 256 old answers.0 now answers.1))
         (heard (is_overdue connected.terms.keep_alive (now - connected.heard)) answers.0 new connected now phase reply answers.2)
 
     first_answered : (answer : FirstAnswer) (old new : S) (number max_inflight now : ℕ) (packet : Packet) (phase : ConnPhase P) (reply : Reply)
-        → AnswersFirst call slot_of answer old number max_inflight now packet phase reply new → Plain call [] [] (own_places phase) old new
+        → AnswersFirst call slot_of answer old number max_inflight now packet phase reply new → Plain call [] [] [] (own_places phase) old new
     first_answered first.Close old new number max_inflight now packet phase reply answers = still call old new (ap own_places answers.0.over) answers.1
     first_answered (first.Refuse refusal) old new number max_inflight now packet phase reply answers = still call old new (ap own_places answers.0.over) answers.1
     first_answered first.Attach old new number max_inflight now packet phase reply answers = attached call old new number now _ 0 phase reply answers.2
 
     -- an input of a connection
     pub reacted : (phase : ConnPhase P) (input : Input) (old new : S) (number now : ℕ) (between : ConnPhase P) (reply : Reply)
-        → Reacts call slot_of old number phase now input between reply new → Walked [] old number phase input reply.next (own_places between) new
+        → Reacts call slot_of old number phase now input between reply new → Walked [] [] old number phase input reply.next (own_places between) new
     reacted (Unconnected opened) (inputs.Packet packet) old new number now between reply is = idle old new number _ _ reply.next (first_answered (first_answer packet) old new number opened.max_inflight now packet between reply is) (λ p b. b, λ e f c. c)
     reacted (Unconnected opened) (inputs.Fault fault) old new number now between reply is =
         idle old new number _ _ reply.next (still call old new (refused_if (fault_refusal fault) between reply is.0) is.1) (λ p b. b, λ e f c. c)
@@ -375,14 +385,17 @@ module _ {S P : Type 0} (call : S → SupplyCall P → S → Type 0) where
     reacted Ended input old new number now between reply is = idle old new number _ _ reply.next (still call old new (ap own_places is.0.over) is.1) (λ p b. b, λ e f c. c)
 
     -- what is handed out after it
-    pub handed_behind : (between : ConnPhase P) (old new : S) (sent : List Packet) (phase : ConnPhase P) → Hands call slot_of old between sent phase new → HandsBehind (fresh_messages sent) between old phase new
+    pub handed_behind : (between : ConnPhase P) (old new : S) (sent : List Packet) (phase : ConnPhase P) → Hands call slot_of old between sent phase new → HandsBehind sent between old phase new
     handed_behind (Unconnected opened) old new sent phase hands = none_behind_it (Unconnected opened) old new sent phase hands
     handed_behind (Waiting request ticks) old new sent phase hands = none_behind_it (Waiting request ticks) old new sent phase hands
     handed_behind (Connected connected) old new sent phase hands =
-        let out = handed_out call connected.session.subscription old new connected.session.membership connected.session.window sent hands.0 hands.1 hands.2 in
-        subst (λ after. HandsBehind (fresh_messages sent) (Connected connected) old after new) (sym hands.3)
+        let out = handed_out call (hand_out_terms connected) old new connected.session.membership connected.session.window sent hands.0 hands.1 hands.2 in
+        subst (λ after. HandsBehind sent (Connected connected) old after new) (sym hands.3)
         (record {
-          calls = out.calls;
+          outcomes = out.outcomes;
+          calls = plain_calls call (hand_outs_of out.outcomes) old new out.calls;
+          fit = out.fit;
+          messages = out.messages;
           to_one =
               ⊎_elim
               (λ (none : handed out.calls.supply_calls ≡ []). inl none)
@@ -395,11 +408,11 @@ module _ {S P : Type 0} (call : S → SupplyCall P → S → Type 0) where
     stepped old new number now phase phase' input packets next steps =
         let before = reacted phase input old steps.mid number now steps.between steps.reply steps.reacts in
         let behind = handed_behind steps.between steps.mid new steps.sent phase' steps.hands in
-        let none_earlier = none_of_none (handed before.supply_calls) before.hands in
+        let none_earlier = before.hands in
         let both = before.supply_calls ++ behind.calls.supply_calls in
-        let all = subst (λ n. All (fresh_messages steps.sent) old number phase input n phase' new) (sym steps.followed)
+        let all = subst (λ n. All (hand_outs_of behind.outcomes) (discards_of behind.outcomes) old number phase input n phase' new) (sym steps.followed)
         (record {
-          calls = further (fresh_messages steps.sent) old steps.mid new number phase input steps.reply.next before behind.calls;
+          calls = further (hand_outs_of behind.outcomes) old steps.mid new number phase input steps.reply.next before behind.calls;
           hands_last =
               ⊎_elim
               (λ (none : handed behind.calls.supply_calls ≡ []).
@@ -419,11 +432,14 @@ module _ {S P : Type 0} (call : S → SupplyCall P → S → Type 0) where
           supply_calls = all.calls.supply_calls;
           made = all.calls.made;
           offers = all.calls.offers;
+          outcomes = behind.outcomes;
+          handed_out = all.calls.hands;
+          fit = behind.fit;
           settles = all.calls.settles;
           hands =
               ap fresh_messages steps.written
               ∙ replied_and_sent call slot_of phase input old steps.mid number now steps.between steps.reply steps.sent steps.reacts
-              ∙ sym all.calls.hands;
+              ∙ behind.messages;
           hands_last = all.hands_last;
           places = all.calls.places;
         }

@@ -1,5 +1,5 @@
 -- A session's Subscription Identifier is that of the last SUBSCRIBE that was granted.
-use Rattle.std.proofs.Common.{◌≡◌, ◌⊎◌, ℕ, Bool, true, false, List, [], ◌∷◌, ◌++◌, Option, Some, None, sym, ap, subst, ◌∙◌, inl, inr, ⊎_elim, refl}
+use Rattle.std.proofs.Common.{◌≡◌, ◌⊎◌, ℕ, Bool, true, false, List, [], ◌++◌, Option, Some, None, sym, ap, subst, ◌∙◌, inl, inr, ⊎_elim, refl}
 use Rattle.std.specs.Prelude.{option_to_list}
 use Rattle.mqtt_packet.specs.declared.packet.Packet.{Packet}
 use Rattle.mqtt_packet.specs.declared.packet.Packet.TheVariants as packets
@@ -12,7 +12,7 @@ use Rattle.conn_supply.specs.declared.reply.Then.{Then}
 use Rattle.conn_supply.specs.declared.reply.Then.TheVariants.{Go, Close, Kicked}
 use Rattle.conn_supply.specs.declared.reply.Reply.{Reply}
 use Rattle.conn_supply.specs.SupplyCalls.{SupplyCall}
-use Rattle.conn_supply.specs.Subscribing.{SubscribesAs, subscription_after}
+use Rattle.conn_supply.specs.Subscribing.{SubscribesAs}
 use Rattle.conn_engine.specs.declared.input.Input.{Input}
 use Rattle.conn_engine.specs.declared.input.Input.TheVariants as inputs
 use Rattle.conn_engine.specs.declared.phase.ConnectedClient.{ConnectedClient}

@@ -59,7 +59,7 @@ module _ {S P : Type 0} (call : S → SupplyCall P → S → Type 0) where
   pub leads : (old new : S) → Apart old new → LeadsAside call old new
   leads old new apart = record { supply_calls = apart.calls.supply_calls; made = apart.calls.made; aside = apart.aside }
 
-  pub apart : {before after : List P} (old new : S) → Aside call [] before after old new → Apart old new
+  pub apart : {before after : List P} (old new : S) → Aside call [] [] before after old new → Apart old new
   apart old new calls = record { calls = record { supply_calls = calls.supply_calls; made = calls.made; settles = calls.settles; hands = calls.hands }; aside = calls.aside }
 
   pub still : (old new : S) → new ≡ old → Apart old new

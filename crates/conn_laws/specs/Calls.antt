@@ -1,10 +1,11 @@
 -- The calls that a step makes, one after the other: what they offer, what they settle, and what they hand out.
-use Rattle.std.specs.Prelude.{◌≡◌, ◌⊎◌, ℕ, Bool, true, false, List, [], ◌∷◌, ◌++◌, map, filter_map, Option, Some, None, Ok, Contains, ⊤}
+use Rattle.std.specs.Prelude.{◌≡◌, ◌⊎◌, ℕ, Bool, true, false, not, List, [], ◌∷◌, ◌++◌, map, filter_map, Option, Some, None, Ok, Contains, ⊤}
 use Rattle.std.specs.List.{AllByRecursion}
 use Rattle.mqtt_packet.specs.declared.packet.Packet.{Packet}
 use Rattle.mqtt_packet.specs.declared.packet.Packet.TheVariants as packets
 use Rattle.mqtt_packet.specs.declared.packet.Publish.{Publish}
 use Rattle.group_jobs.specs.declared.fate.Fate.{Fate}
+use Rattle.group_jobs.specs.declared.fate.Fate.TheVariants.{Discarded}
 use Rattle.group_jobs.specs.declared.message.Message.{Message}
 use Rattle.group_jobs.specs.Stamps.{Held}
 use Rattle.member_window.specs.Contents.{held_of}
@@ -12,6 +13,8 @@ use Rattle.conn_rules.specs.declared.publishing.PublishAnswer.{PublishAnswer}
 use Rattle.conn_rules.specs.declared.publishing.PublishAnswer.TheVariants as answers
 use Rattle.conn_rules.specs.Publishing.{publish_answer, message_of}
 use Rattle.conn_rules.specs.Acknowledging.{fate_of}
+use Rattle.conn_rules.specs.HandOuts.{is_discarded}
+use Rattle.conn_rules.specs.declared.hand_outs.HandOutTerms.{HandOutTerms}
 use Rattle.conn_supply.specs.declared.reply.Then.{Then}
 use Rattle.conn_supply.specs.declared.reply.Then.TheVariants as thens
 use Rattle.conn_supply.specs.SupplyCalls.{SupplyCall}
@@ -19,8 +22,9 @@ use Rattle.conn_supply.specs.SupplyCalls.SupplyCall.{Match, MayTake, Offer, Take
 use Rattle.conn_engine.specs.declared.input.Input.{Input}
 use Rattle.conn_engine.specs.declared.input.Input.TheVariants as inputs
 use Rattle.conn_engine.specs.declared.phase.ConnPhase.{ConnPhase}
-use Rattle.conn_engine.specs.declared.phase.ConnPhase.TheVariants.{Connected}
+use Rattle.conn_engine.specs.declared.phase.ConnPhase.TheVariants.{Unconnected, Waiting, Connected, Ended}
 use Rattle.conn_engine.specs.Connecting.{has_place}
+use Rattle.conn_engine.specs.Step.{hand_out_terms}
 use Rattle.conn_laws.specs.Places.{own_places, IsMemberWith, KeepsPlaces, KeepsInTurn}
 
 -- what a call offers: to the group of which slot, from which connection, and which message
@@ -55,6 +59,40 @@ hand_out_of other = None
 
 abbrev pub handed : {P : Type 0} → List (SupplyCall P) → List (P × Held)
 handed supply_calls = filter_map hand_out_of supply_calls
+
+-- what becomes of a hand-out: its message is sent, or else it is discarded
+pub record Outcome (P : Type 0) : Type 0 where
+  pub hand_out : P × Held
+  pub sent : Bool
+
+-- what is sent of what is handed out, and what is discarded
+abbrev pub if_sent : {P : Type 0} → Bool → P × Held → Option (P × Held)
+if_sent true hand_out = Some hand_out
+if_sent false hand_out = None
+
+abbrev pub if_discarded : {P : Type 0} → Bool → P × Held → Option (Held × Fate)
+if_discarded true hand_out = None
+if_discarded false hand_out = Some (hand_out.1, Discarded)
+
+abbrev pub hand_outs_of : {P : Type 0} → List (Outcome P) → List (P × Held)
+hand_outs_of outcomes = map (λ o. o.hand_out) outcomes
+
+abbrev pub sent_of : {P : Type 0} → List (Outcome P) → List (P × Held)
+sent_of outcomes = filter_map (λ o. if_sent o.sent o.hand_out) outcomes
+
+abbrev pub discards_of : {P : Type 0} → List (Outcome P) → List (Held × Fate)
+discards_of outcomes = filter_map (λ o. if_discarded o.sent o.hand_out) outcomes
+
+-- a message is sent exactly where it is not to be discarded under these terms (3.1.2.11.4)
+abbrev pub IsSentIfFit : {P : Type 0} → HandOutTerms → Outcome P → Type 0
+IsSentIfFit terms outcome = outcome.sent ≡ not (is_discarded terms outcome.hand_out.1.message)
+
+-- so it is with all that a step hands out, under the terms of its client; where the connection has none after it, nothing is handed out
+abbrev pub AreSentIfFit : {P : Type 0} → ConnPhase P → List (Outcome P) → Type 0
+AreSentIfFit (Unconnected opened) outcomes = outcomes ≡ []
+AreSentIfFit (Waiting request ticks) outcomes = outcomes ≡ []
+AreSentIfFit (Connected connected) outcomes = AllByRecursion (IsSentIfFit (hand_out_terms connected)) outcomes
+AreSentIfFit Ended outcomes = outcomes ≡ []
 
 -- the messages of what is handed out
 abbrev pub messages_of : {P : Type 0} → List (P × Held) → List Message
@@ -111,16 +149,16 @@ pub record OffersNone {P : Type 0} (phase : ConnPhase P) (input : Input) (supply
   pub offers : offered supply_calls ≡ []
   pub unless : (publish : Publish) → Brings phase input publish → next ≡ thens.Kicked
 
--- the calls of a step in which a message was acknowledged: it is settled once, and nothing else is
-pub record SettlesOne {P : Type 0} (phase : ConnPhase P) (input : Input) (supply_calls : List (SupplyCall P)) : Type 0 where
+-- the calls of a step in which a message was acknowledged: it is settled once, and after it only what is discarded
+pub record SettlesOne {P : Type 0} (phase : ConnPhase P) (input : Input) (supply_calls : List (SupplyCall P)) (discards : List (Held × Fate)) : Type 0 where
   pub envelope : Held
   pub fate : Fate
   pub confirmed : Confirms phase input envelope fate
-  pub settles : settled supply_calls ≡ (envelope, fate) ∷ []
+  pub settles : settled supply_calls ≡ (envelope, fate) ∷ discards
 
--- the calls of any other step: nothing is settled
-pub record SettlesNone {P : Type 0} (phase : ConnPhase P) (input : Input) (supply_calls : List (SupplyCall P)) (next : Then) : Type 0 where
-  pub settles : settled supply_calls ≡ []
+-- the calls of any other step: nothing is settled but what is discarded
+pub record SettlesNone {P : Type 0} (phase : ConnPhase P) (input : Input) (supply_calls : List (SupplyCall P)) (next : Then) (discards : List (Held × Fate)) : Type 0 where
+  pub settles : settled supply_calls ≡ discards
   pub unless : (envelope : Held) (fate : Fate) → Confirms phase input envelope fate → next ≡ thens.Kicked
 
 -- the calls of a step in which an allocation failed for a PUBLISH: its message was offered once to some of the groups, from the first on
@@ -132,14 +170,15 @@ pub record OffersToSome {P : Type 0} (number : ℕ) (input : Input) (supply_call
   pub match : matched supply_calls ≡ (publish.topic, slots ++ others) ∷ []
   pub offers : offered supply_calls ≡ map (λ slot. (slot, number, message_of publish)) slots
 
--- a call by which a message is asked for, or whether one may be
+-- a call by which a message is asked for, or whether one may be, or by which it is discarded
 abbrev pub AsksForMessage : {P : Type 0} → SupplyCall P → Type 0
 AsksForMessage (MayTake place answer) = ⊤
 AsksForMessage (Take place place' answer) = ⊤
 AsksForMessage (TakeBack place place' answer) = ⊤
+AsksForMessage (Settle place place' envelope fate) = fate ≡ Discarded
 AsksForMessage _ = ⊥
 
--- the last calls of a step ask for messages, and do nothing else: the first of them for the place that the connection has by then, each for that place as the call before left it, and
+-- the last calls of a step ask for messages, discard some of them, and do nothing else: the first of them for the place that the connection has by then, each for that place as the call before left it, and
 -- as the last one leaves it the connection has it after the step, as a member
 abbrev pub AsksForOne : {P : Type 0} → ConnPhase P → List (SupplyCall P) → List (SupplyCall P) → ConnPhase P → Type 0
 AsksForOne {P} phase earlier last phase' =
@@ -168,9 +207,13 @@ module _ {S P : Type 0} (call : S → SupplyCall P → S → Type 0) where
     pub supply_calls : List (SupplyCall P)
     pub made : MakesAll old supply_calls new
     pub offers : OffersToEach number input supply_calls ⊎ OffersNone phase input supply_calls next
-    pub settles : SettlesOne phase input supply_calls ⊎ SettlesNone phase input supply_calls next
-    -- what is handed out is sent by this step, each message in a PUBLISH of its own, in their order; and no other is sent for the first time
-    pub hands : fresh_messages sent ≡ messages_of (handed supply_calls)
+    -- what becomes of each hand-out
+    pub outcomes : List (Outcome P)
+    pub handed_out : handed supply_calls ≡ hand_outs_of outcomes
+    pub fit : AreSentIfFit phase' outcomes
+    pub settles : SettlesOne phase input supply_calls (discards_of outcomes) ⊎ SettlesNone phase input supply_calls next (discards_of outcomes)
+    -- what is not discarded of them is sent by this step, each message in a PUBLISH of its own, in their order; and no other is sent for the first time
+    pub hands : fresh_messages sent ≡ messages_of (sent_of outcomes)
     -- it is handed out last, to the place that the connection has after this step, one message after the other
     pub hands_last : HandsOutLast phase supply_calls phase'
     -- the connection has the places that it had, but for what these calls brought, took and changed
@@ -181,5 +224,8 @@ module _ {S P : Type 0} (call : S → SupplyCall P → S → Type 0) where
     pub supply_calls : List (SupplyCall P)
     pub made : MakesAll old supply_calls new
     pub offers : OffersToSome number input supply_calls ⊎ (offered supply_calls ≡ [])
-    pub settles : SettlesOne phase input supply_calls ⊎ (settled supply_calls ≡ [])
+    -- of what is handed out, some is discarded, and the rest is held
+    pub outcomes : List (Outcome P)
+    pub handed_out : handed supply_calls ≡ hand_outs_of outcomes
+    pub settles : SettlesOne phase input supply_calls (discards_of outcomes) ⊎ (settled supply_calls ≡ discards_of outcomes)
     pub places : KeepsPlaces (own_places phase) supply_calls []

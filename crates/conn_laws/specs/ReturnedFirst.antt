@@ -1,16 +1,25 @@
--- Calls by which what was given back is handed out first: whoever hands a place a message of the queue has just asked whether one was given back.
-use Rattle.std.specs.Prelude.{◌≡◌, List, [], ◌∷◌, Option, Some, None, Ok, ⊤}
+-- Calls by which what was given back is handed out first: whoever hands a place a message of the queue has just asked whether one was given back; and by which a message is
+-- discarded only as soon as it was handed out.
+use Rattle.std.specs.Prelude.{◌≡◌, ◌⊎◌, List, [], ◌∷◌, Option, Some, None, Ok, ⊤}
+use Rattle.group_jobs.specs.declared.fate.Fate.TheVariants.{Discarded}
+use Rattle.group_jobs.specs.Stamps.{Held}
 use Rattle.conn_supply.specs.SupplyCalls.{SupplyCall}
-use Rattle.conn_supply.specs.SupplyCalls.SupplyCall.{Take, TakeBack}
+use Rattle.conn_supply.specs.SupplyCalls.SupplyCall.{Take, TakeBack, Settle}
 use Rattle.conn_laws.specs.Calls.{MakesAll}
 
 -- the call before asked, for this place, whether a message was given back, and there was none
 abbrev pub FoundNone : {P : Type 0} → Option (SupplyCall P) → P → Type 0
 FoundNone {P} last place = (before : P) × (last ≡ Some (TakeBack before place (Ok None)))
 
--- a call may follow the one before, if there is one: where it hands out a message of the queue, that one found none that was given back
+-- the call before handed this message to this place
+abbrev pub HandedOut : {P : Type 0} → Option (SupplyCall P) → P → Held → Type 0
+HandedOut {P} last place envelope = (before : P) × ((last ≡ Some (TakeBack before place (Ok (Some envelope)))) ⊎ (last ≡ Some (Take before place (Ok (Some envelope)))))
+
+-- a call may follow the one before, if there is one: where it hands out a message of the queue, that one found none that was given back; and where it discards a
+-- message, that one handed it out
 abbrev pub MayFollow : {P : Type 0} → Option (SupplyCall P) → SupplyCall P → Type 0
 MayFollow last (Take place place' (Ok (Some envelope))) = FoundNone last place
+MayFollow last (Settle place place' envelope Discarded) = HandedOut last place envelope
 MayFollow last other = ⊤
 
 -- each of these calls may follow the one before it; before the first of them was this one, if any was

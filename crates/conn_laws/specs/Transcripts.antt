@@ -17,13 +17,13 @@ use Rattle.session_desk.specs.declared.session.Membership.{Membership}
 use Rattle.session_desk.specs.declared.session.Membership.TheVariants.{Member}
 use Rattle.conn_supply.specs.declared.reply.Then.{Then}
 use Rattle.conn_supply.specs.SupplyCalls.{SupplyCall}
-use Rattle.conn_supply.specs.SupplyCalls.SupplyCall.{Attach, Park, ParkAsIs, Take, TakeBack}
+use Rattle.conn_supply.specs.SupplyCalls.SupplyCall.{Attach, Park, ParkAsIs, Take, TakeBack, Settle}
 use Rattle.conn_engine.specs.declared.input.Input.{Input}
 use Rattle.conn_engine.specs.declared.phase.ConnectedClient.{ConnectedClient}
 use Rattle.conn_engine.specs.declared.phase.ConnPhase.{ConnPhase}
 use Rattle.conn_engine.specs.declared.phase.ConnPhase.TheVariants.{Unconnected, Waiting, Connected, Ended}
 use Rattle.conn_engine.specs.Ending.{down}
-use Rattle.conn_laws.specs.Calls.{MakesAll, handed, SettlesOne, SettlesNone}
+use Rattle.conn_laws.specs.Calls.{MakesAll, handed, Outcome, hand_outs_of, sent_of, discards_of, AreSentIfFit, SettlesOne, SettlesNone}
 use Rattle.conn_laws.specs.Marks.{publishes_in, publishes_of, fresh_of, acknowledged_of, IsWithin, IsAckedBy}
 
 -- what a connection has, where its client has its session
@@ -69,10 +69,11 @@ IsAside (Park session now answer) = ⊥
 IsAside (ParkAsIs session) = ⊥
 IsAside other = ⊤
 
--- a place that is asked for a message has the same number of this kind after it
+-- a place that is asked for a message, or settles one, has the same number of this kind after it
 abbrev pub KeepsNumber : {P : Type 0} → (P → ℕ) → SupplyCall P → Type 0
 KeepsNumber of (Take place place' answer) = of place' ≡ of place
 KeepsNumber of (TakeBack place place' answer) = of place' ≡ of place
+KeepsNumber of (Settle place place' envelope fate) = of place' ≡ of place
 KeepsNumber of other = ⊤
 
 module _ {S P : Type 0} (call : S → SupplyCall P → S → Type 0) where
@@ -155,11 +156,14 @@ module _ {S P : Type 0} (call : S → SupplyCall P → S → Type 0) where
     pub publishes : publishes_in sent ≡ publishes_of marks
     pub supply_calls : List (SupplyCall P)
     pub made : MakesAll call old supply_calls new
-    -- what is handed out is what is sent for the first time, in that order, under the session's Subscription Identifier; and to the place of this session, as far as any number of a place
-    -- tells that stays where the place is asked for a message: its slot, its number in the group
-    pub hands : map (λ (h : P × Held). under (subscription_of (connected_of phase')) h.1) (handed supply_calls) ≡ fresh_of marks
-    pub own : (of : P → ℕ) → KeepsNumbers of → AllByRecursion (λ (h : P × Held). IsMemberAt of (connected_of phase') h.0) (handed supply_calls)
-    -- what is acknowledged is settled, by the PUBACK that came; and nothing else is. No PUBACK for what the session holds is passed over, unless
+    -- of what is handed out, what the client may be sent is sent for the first time, in that order, under the session's Subscription Identifier, and the rest is discarded; and all
+    -- is handed to the place of this session, as far as any number of a place tells that stays where the place is asked for a message, or settles one: its slot, its number in the group
+    pub outcomes : List (Outcome P)
+    pub handed_out : handed supply_calls ≡ hand_outs_of outcomes
+    pub fit : AreSentIfFit phase' outcomes
+    pub hands : map (λ (h : P × Held). under (subscription_of (connected_of phase')) h.1) (sent_of outcomes) ≡ fresh_of marks
+    pub own : (of : P → ℕ) → KeepsNumbers of → AllByRecursion (λ (h : P × Held). IsMemberAt of (connected_of phase') h.0) (hand_outs_of outcomes)
+    -- what is acknowledged is settled, by the PUBACK that came; and nothing else is but what is discarded, after it. No PUBACK for what the session holds is passed over, unless
     -- another connection took the session
-    pub settles : (SettlesOne phase input supply_calls × ((acked : ℕ × ℕ) × (acknowledged_of marks ≡ acked ∷ []) × IsAckedBy input acked))
-        ⊎ (SettlesNone phase input supply_calls next × (acknowledged_of marks ≡ []))
+    pub settles : (SettlesOne phase input supply_calls (discards_of outcomes) × ((acked : ℕ × ℕ) × (acknowledged_of marks ≡ acked ∷ []) × IsAckedBy input acked))
+        ⊎ (SettlesNone phase input supply_calls next (discards_of outcomes) × (acknowledged_of marks ≡ []))

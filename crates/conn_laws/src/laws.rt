@@ -38,7 +38,8 @@ pub fn ended_law<P: HoldingPlace, S: Supply<P>>()
 
 /// **Nothing is left to hand out** after a step that leaves a client with its session: no message waits to be sent again that the
 /// quota has room for; and where the session is a member's, its window has no room for another message, or there was none, when it
-/// was asked for last, or the supply's last answer was that the place is to be handed no more now.
+/// was asked for last, or the supply's last answer was that the place is to be handed no more now, or the last 131,072 that it was handed
+/// were discarded.
 pub fn eager_law<P: HoldingPlace, S: Supply<P>>()
     ensures { (number now : ℕ) (phase : ConnPhase P) (connected : ConnectedClient P) (input : Input) (packets : List Packet) (next : Then) (old new : S) →
         Steps S.call P.slot_of old number phase now input packets next (phases.Connected connected) new →
@@ -71,9 +72,10 @@ pub fn identifier_law<P: HoldingPlace, S: Supply<P>>()
 ///
 /// - a message is offered only by the PUBLISH that brought it, once to each group that matches, in the order of their slots; where
 ///   an allocation fails, to some of them, from the first on;
-/// - a message is settled only by a PUBACK under its identifier, once, as its Reason Code says;
+/// - a message is settled only by a PUBACK under its identifier, once, as its Reason Code says, or else discarded by the step that was handed it;
 /// - what is handed out is sent by the same step, each message in a PUBLISH of its own with DUP 0, in their order, and no other packet
-///   brings a message for the first time; where an allocation fails nothing is sent;
+///   brings a message for the first time; but a message that the client may not be sent is discarded, and no other is (section 3.1.2.11.4); where
+///   an allocation fails nothing is sent;
 /// - it is handed to the place that the connection has then, by the last calls of the step, one after the other;
 /// - no place is lost and none is made: the connection has those that it had and that its calls brought, but for those that they took.
 pub fn calls_law<P: HoldingPlace, S: Supply<P>>()
@@ -95,7 +97,8 @@ pub fn publisher_law<P: HoldingPlace, S: Supply<P>>()
 {}
 
 /// **What was given back is handed out first**: a step hands a place a message of the queue only directly after a call that asked for one that was
-/// given back, and found none; and so does one that wants memory (`failed`).
+/// given back, and found none; **and a message is discarded as soon as it is handed out**: directly after the call that hands it out. So it is in one that
+/// wants memory (`failed`).
 pub fn returned_first_law<P: HoldingPlace, S: Supply<P>>()
     ensures stepped { (number now : ℕ) (phase phase' : ConnPhase P) (input : Input) (packets : List Packet) (next : Then) (old new : S) →
         Steps S.call P.slot_of old number phase now input packets next phase' new → CallsReturnedFirst S.call old new }
@@ -118,9 +121,9 @@ pub fn one_step_law<P: HoldingPlace, S: Supply<P>>()
 ///
 /// - A connection that is given a session adds `Up` with the Receive Maximum of its CONNECT; from then on it has that session and no other, and
 ///   adds `Down` where it ends, and hands the session in.
-/// - What is handed out is what is sent for the first time, in that order, each message to the place of this session.
-/// - What is acknowledged is settled, once, by the PUBACK that came, and nothing else is; and no PUBACK for what the session holds is passed over,
-///   unless another connection took the session.
+/// - What is handed out is handed to the place of this session; what the client may be sent of it is sent for the first time, in that order, and the rest is discarded.
+/// - What is acknowledged is settled, once, by the PUBACK that came, and nothing else is but what is discarded; and no PUBACK for what the session holds is passed
+///   over, unless another connection took the session.
 pub fn transcript_law<P: HoldingPlace, S: Supply<P>>()
     ensures { (number now : ℕ) (phase phase' : ConnPhase P) (input : Input) (packets : List Packet) (next : Then) (old new : S) →
         Steps S.call P.slot_of old number phase now input packets next phase' new →

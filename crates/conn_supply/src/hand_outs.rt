@@ -4,22 +4,26 @@ ghost use Rattle.mqtt_packet.specs.declared.packet.Packet.{Packet};
 ghost use Rattle.group_jobs.specs.Stamps.{Held, under};
 ghost use Rattle.member_window.specs.Identifiers.{identifiers, IsLeastFree};
 ghost use Rattle.member_window.specs.Contents.{held_of, HasRoom, IsNextResend, after_put, after_resend};
+ghost use Rattle.conn_rules.specs.HandOuts.{is_discarded};
 ghost use Rattle.conn_rules.specs.Packets.{job};
 ghost use Rattle.session_desk.specs.declared.session.Membership.TheVariants.{Leaving};
 ghost use Rattle.conn_supply.specs.Holding.{messages, AreOut, FindsOut};
 ghost use Rattle.conn_supply.specs.HandOuts.{SendsAgain, SendsSomeAgain, AsksFor, IsRefused, SendsOne, SendsNone, SendsFresh, LeavesWith, HandsFresh, HandsOut, KeepsHeld, HoldsMore, TakesSome, HandsSome};
 
 use crate::supply::{HoldingPlace, NoMemory, Supply};
-use conn_rules::job;
-use group_jobs::Envelope;
+use conn_rules::{HandOutTerms, is_discarded, job};
+use group_jobs::{Envelope, Fate};
 use member_window::Window;
 use mqtt_packet::{Packet, PacketIdentifier, SubscriptionIdentifier};
 use session_desk::Membership;
 use std::mem;
 
+/// How many messages are discarded at most where one is looked for: more than can wait in a group (profile).
+const MOST_DISCARDS: u32 = 131_072;
+
 /// Hands out to a session what is due: what waits is sent again; then a member is handed messages while there is room, under the
 /// session's Subscription Identifier (section 3.3.2.3.8), and who leaves is no member once it holds nothing. The packets go after those
-/// that are there.
+/// that are there. A fresh message whose PUBLISH is longer than the client takes is discarded as soon as it was handed out (section 3.1.2.11.4): it is settled so in its group.
 ///
 /// A visit of the supply is going on. What the session holds is out at its place, then and from then on.
 ///
@@ -29,7 +33,7 @@ use std::mem;
 pub fn hand_out<P: HoldingPlace, S: Supply<P>>(
     supply: &mut S,
     membership: &mut Membership<P>,
-    subscription: Option<SubscriptionIdentifier>,
+    terms: &HandOutTerms,
     window: &mut Window<Envelope>,
     packets: &mut Vec<Packet>,
 ) -> Result<(), NoMemory>
@@ -37,8 +41,8 @@ pub fn hand_out<P: HoldingPlace, S: Supply<P>>(
     requires visiting { S.visiting supply.old ≡ true }
     ensures handed { MatchResult result
         (λ _. (sent : List Packet) × (packets.new.items ≡ packets.old.items ++ sent)
-        × HandsOut S.call subscription supply.old membership.old window.old sent membership.new window.new supply.new)
-        (λ _. HandsSome S.call subscription supply.old membership.old window.old membership.new window.new supply.new) }
+        × HandsOut S.call terms.now supply.old membership.old window.old sent membership.new window.new supply.new)
+        (λ _. HandsSome S.call terms.now supply.old membership.old window.old membership.new window.new supply.new) }
     ensures sound { window.new.retired ≡ window.old.retired }
     ensures out { AreOut P.has_out membership.new (messages window.new) }
     ensures visiting { S.visiting supply.new ≡ S.visiting supply.old }
@@ -48,13 +52,7 @@ pub fn hand_out<P: HoldingPlace, S: Supply<P>>(
     }
     match membership {
         Membership::NotMember => Ok(()),
-        Membership::Member(place) => match send_fresh(
-            supply,
-            place,
-            &subscription,
-            window,
-            packets,
-        ) {
+        Membership::Member(place) => match send_fresh(supply, place, terms, window, packets) {
             Ok(()) => Ok(()),
             Err(NoMemory) => Err(NoMemory),
         },
@@ -122,43 +120,44 @@ fn identifier_of(number: u16) -> PacketIdentifier
 fn send_fresh<P: HoldingPlace, S: Supply<P>>(
     supply: &mut S,
     place: &mut P,
-    subscription: &Option<SubscriptionIdentifier>,
+    terms: &HandOutTerms,
     window: &mut Window<Envelope>,
     packets: &mut Vec<Packet>,
 ) -> Result<(), NoMemory>
     requires out { P.has_out place.old (messages window.old) }
     requires visiting { S.visiting supply.old ≡ true }
     ensures sent { OnOk result ((sent : List Packet) × (packets.new.items ≡ packets.old.items ++ sent)
-        × SendsFresh S.call subscription.now supply.old place.old window.old sent place.new window.new supply.new) }
-    ensures kept { OnErr result ((taken : List Held) × TakesSome S.call subscription.now supply.old place.old window.old taken place.new window.new supply.new) }
+        × SendsFresh S.call terms.now supply.old place.old window.old sent place.new window.new supply.new) }
+    ensures kept { OnErr result ((taken : List Held) × TakesSome S.call terms.now supply.old place.old window.old taken place.new window.new supply.new) }
     ensures sound { window.new.retired ≡ window.old.retired }
     ensures out { P.has_out place.new (messages window.new) }
     ensures visiting { S.visiting supply.new ≡ S.visiting supply.old }
 {
     packets.reserve(1)?;
-    let Some(packet) = next_fresh(supply, place, subscription, window)? else {
+    let Some(packet) = next_fresh(supply, place, terms, window)? else {
         return Ok(());
     };
     packets.push_reserved(packet);
-    match send_fresh(supply, place, subscription, window, packets) {
+    match send_fresh(supply, place, terms, window, packets) {
         Ok(()) => Ok(()),
         Err(NoMemory) => Err(NoMemory),
     }
 }
 
-/// Hands a message to a place, where there is room, the supply allows one more and has one, and gives its packet.
+/// Hands a message to a place, where there is room, the supply allows one more and has one that the client may be sent, and gives its packet. What it
+/// may not be sent is discarded on the way.
 fn next_fresh<P: HoldingPlace, S: Supply<P>>(
     supply: &mut S,
     place: &mut P,
-    subscription: &Option<SubscriptionIdentifier>,
+    terms: &HandOutTerms,
     window: &mut Window<Envelope>,
 ) -> Result<Option<Packet>, NoMemory>
     requires out { P.has_out place.old (messages window.old) }
     requires visiting { S.visiting supply.old ≡ true }
     ensures sent { IfOk result (λ sent. MatchOption sent
-        (SendsNone S.call supply.old place.old window.old place.new window.new supply.new)
-        (λ packet. SendsOne S.call subscription.now supply.old place.old window.old packet place.new window.new supply.new × HoldsMore window.old window.new)) }
-    ensures kept { OnErr result ((taken : List Held) × TakesSome S.call subscription.now supply.old place.old window.old taken place.new window.new supply.new) }
+        (SendsNone S.call terms.now supply.old place.old window.old place.new window.new supply.new)
+        (λ packet. SendsOne S.call terms.now supply.old place.old window.old packet place.new window.new supply.new × HoldsMore window.old window.new)) }
+    ensures kept { OnErr result ((taken : List Held) × TakesSome S.call terms.now supply.old place.old window.old taken place.new window.new supply.new) }
     ensures sound { window.new.retired ≡ window.old.retired }
     ensures out { P.has_out place.new (messages window.new) }
     ensures visiting { S.visiting supply.new ≡ S.visiting supply.old }
@@ -166,17 +165,26 @@ fn next_fresh<P: HoldingPlace, S: Supply<P>>(
     if !window.room() {
         return Ok(None);
     }
-    if !supply.may_take(place) {
-        return Ok(None);
+    'messages: for _ in 0..MOST_DISCARDS {
+        if !supply.may_take(place) {
+            return Ok(None);
+        }
+        let Some(envelope) = ask(supply, place)? else {
+            return Ok(None);
+        };
+        match is_discarded(envelope.message(), terms) {
+            Ok(true) => supply.settle(place, envelope, Fate::Discarded),
+            Ok(false) => match put(window, envelope, terms.subscription) {
+                Ok(packet) => return Ok(Some(packet)),
+                Err(NoMemory) => return Err(NoMemory),
+            },
+            Err(_) => {
+                hold(window, envelope, terms.subscription);
+                return Err(NoMemory);
+            }
+        }
     }
-    match ask(supply, place) {
-        Ok(Some(envelope)) => match put(window, envelope, *subscription) {
-            Ok(packet) => Ok(Some(packet)),
-            Err(NoMemory) => Err(NoMemory),
-        },
-        Ok(None) => Ok(None),
-        Err(NoMemory) => Err(NoMemory),
-    }
+    Ok(None)
 }
 
 /// Puts a message into the window, which has room, and gives the packet in which it goes out under that Subscription Identifier.
@@ -193,10 +201,27 @@ fn put(
     ensures sound { window.new.retired ≡ window.old.retired }
     ensures held { messages window.new ≡ messages window.old ++ under subscription envelope ∷ [] }
 {
-    let _held = window.len();
     let shared = envelope.message().share();
+    let identifier = hold(window, envelope, subscription);
+    Ok(job(false, &*shared?, subscription, identifier)?)
+}
+
+/// Puts a message into the window, which has room, under that Subscription Identifier, and gives its Packet Identifier.
+fn hold(
+    window: &mut Window<Envelope>,
+    envelope: Envelope,
+    subscription: Option<SubscriptionIdentifier>,
+) -> PacketIdentifier
+    requires { HasRoom window.old }
+    ensures free { IsLeastFree (identifiers (held_of window.old)) result }
+    ensures put { window.new ≡ after_put window.old result (under subscription envelope) }
+    ensures progress { HoldsMore window.old window.new }
+    ensures sound { window.new.retired ≡ window.old.retired }
+    ensures held { messages window.new ≡ messages window.old ++ under subscription envelope ∷ [] }
+{
+    let _held = window.len();
     match window.put(envelope.under(subscription)) {
-        Ok(identifier) => Ok(job(false, &*shared?, subscription, identifier_of(identifier))?),
+        Ok(identifier) => identifier_of(identifier),
         Err(_back) => unreachable!(),
     }
 }

@@ -23,7 +23,9 @@ use Rattle.conn_engine.specs.declared.phase.ConnPhase.{ConnPhase}
 use Rattle.conn_engine.specs.declared.phase.ConnPhase.TheVariants.{Unconnected, Waiting, Connected, Ended}
 use Rattle.conn_engine.specs.Connecting.{TriesAgain, Withdraws}
 use Rattle.conn_engine.specs.Ending.{down, Sweeps}
-use Rattle.conn_engine.specs.Step.{IsRefusedIf, WaitsForConnect, AnswersFirst, AnswersPacket, AnswersTick, AnswersUnlessKicked, Reacts, Hands, Steps, after_hand_out}
+use Rattle.conn_engine.specs.Step.{hand_out_terms, IsRefusedIf, WaitsForConnect, AnswersFirst, AnswersPacket, AnswersTick, AnswersUnlessKicked, Reacts, Hands, Steps}
+use Rattle.conn_laws.proofs.HandingOut.{all_discarded, discarded_in}
+use Rattle.conn_laws.proofs.Transcripts.{discarded_by}
 use Rattle.conn_laws.specs.Transcripts.{connected_of}
 use Rattle.local_broker.specs.Places.{GroupPlace}
 use Rattle.local_broker.specs.Broker.{Broker}
@@ -272,40 +274,47 @@ reacted (Connected connected) inputs.Closing ledger number old new now phase' re
 reacted Ended input ledger number old new now phase' reply does was =
     quietly _ old new number None (connected_of phase') input tt (stays_over _ old new phase' does.0.over does.1 was)
 
--- what is handed out after the reply
-handed : (between : ConnPhase GroupPlace) (ledger : Ledger) (mid new : Broker) (sent : List Packet) (phase' : ConnPhase GroupPlace) (Says : Type 0)
-    → Hands Calls slot_of mid between sent phase' new
-    → HoldsAs ledger mid (connected_of between) → IfUp (connected_of between) Says → Quiet ledger mid (connected_of phase') new × IfUp (connected_of phase') Says
-handed (Unconnected opened) ledger mid new sent phase' Says does was says =
-    let went_on = went ledger mid new (still mid new does.2) was in (
-      at_last ledger mid new phase' (Unconnected opened) does.1 (record { holds = went_on.owns; adds = went_on.adds }),
-      subst (λ (s : ConnPhase GroupPlace). IfUp (connected_of s) Says) (sym does.1) tt,
-    )
-handed (Waiting request ticks) ledger mid new sent phase' Says does was says =
-    let went_on = went ledger mid new (still mid new does.2) was in (
-      at_last ledger mid new phase' (Waiting request ticks) does.1 (record { holds = went_on.owns; adds = went_on.adds }),
-      subst (λ (s : ConnPhase GroupPlace). IfUp (connected_of s) Says) (sym does.1) tt,
-    )
-handed (Connected connected) ledger mid new sent phase' Says does was says =
-    let out = hands_out connected.session.subscription ledger mid new connected.session.membership connected.session.window sent does.0 does.1 does.2 was in (
-      at_last ledger mid new phase' (Connected (after_hand_out connected does.0 does.1)) does.3 (record { holds = out.0; adds = out.1.adds }),
-      subst (λ (s : ConnPhase GroupPlace). IfUp (connected_of s) Says) (sym does.3) says,
-    )
-handed Ended ledger mid new sent phase' Says does was says =
-    (stays_over ledger mid new phase' does.1 does.2 was, subst (λ (s : ConnPhase GroupPlace). IfUp (connected_of s) Says) (sym does.1) tt)
+-- what is handed out after the reply, and what is discarded of it
+record HandedOut (discarded : List Held) (ledger : Ledger) (mid : Broker) (after : Option (ConnectedClient GroupPlace)) (Says : Type 0) (new : Broker) : Type 0 where
+  holds : HoldsAs ledger new after
+  adds : AddsIn mid.groups (all_discarded discarded) new.groups
+  says : IfUp after Says
 
--- a step
-pub record Acts (ledger : Ledger) (old : Broker) (number : ℕ) (before : Option (ConnectedClient GroupPlace)) (input : Input) (after : Option (ConnectedClient GroupPlace)) (new : Broker) : Type 0 where
+none_handed : (ledger : Ledger) (mid : Broker) (after : Option (ConnectedClient GroupPlace)) (Says : Type 0) (new : Broker) → Quiet ledger mid after new → IfUp after Says → HandedOut [] ledger mid after Says new
+none_handed ledger mid after Says new quiet says = record { holds = quiet.holds; adds = quiet.adds; says = says }
+
+handed : (between : ConnPhase GroupPlace) (ledger : Ledger) (mid new : Broker) (sent : List Packet) (phase' : ConnPhase GroupPlace) (Says : Type 0)
+    (does : Hands Calls slot_of mid between sent phase' new)
+    → HoldsAs ledger mid (connected_of between) → IfUp (connected_of between) Says → HandedOut (discarded_by Calls slot_of between mid new sent phase' does) ledger mid (connected_of phase') Says new
+handed (Unconnected opened) ledger mid new sent phase' Says does was says =
+    let went_on = went ledger mid new (still mid new does.2) was in
+    none_handed ledger mid (connected_of phase') Says new (at_last ledger mid new phase' (Unconnected opened) does.1 (record { holds = went_on.owns; adds = went_on.adds }))
+    (subst (λ (s : ConnPhase GroupPlace). IfUp (connected_of s) Says) (sym does.1) tt)
+handed (Waiting request ticks) ledger mid new sent phase' Says does was says =
+    let went_on = went ledger mid new (still mid new does.2) was in
+    none_handed ledger mid (connected_of phase') Says new (at_last ledger mid new phase' (Waiting request ticks) does.1 (record { holds = went_on.owns; adds = went_on.adds }))
+    (subst (λ (s : ConnPhase GroupPlace). IfUp (connected_of s) Says) (sym does.1) tt)
+handed (Connected connected) ledger mid new sent phase' Says does was says =
+    let hands = does.2 in
+    let discarded = discarded_in Calls (hand_out_terms connected) connected.session.membership mid new hands.between hands.fresh does.0 does.1 hands.sent_fresh in
+    let out = hands_out (hand_out_terms connected) ledger mid new connected.session.membership connected.session.window sent does.0 does.1 hands was in
+    subst (λ (s : ConnPhase GroupPlace). HandedOut discarded ledger mid (connected_of s) Says new) (sym does.3) (record { holds = out.0; adds = out.1.adds; says = says })
+handed Ended ledger mid new sent phase' Says does was says =
+    none_handed ledger mid (connected_of phase') Says new (stays_over ledger mid new phase' does.1 does.2 was) (subst (λ (s : ConnPhase GroupPlace). IfUp (connected_of s) Says) (sym does.1) tt)
+
+-- a step: what its answer settles, and what is discarded after it
+pub record Acts (discarded : List Held) (ledger : Ledger) (old mid : Broker) (number : ℕ) (before : Option (ConnectedClient GroupPlace)) (input : Input) (after : Option (ConnectedClient GroupPlace)) (new : Broker) : Type 0 where
   pub accepted : List Accepted
   pub brought : IsBrought number input accepted
   pub owns : Owns (with_log (with_hand ledger number after) (ledger.log ++ accepted)) new
   pub settled : List Settlement
-  pub adds : AddsIn old.groups settled new.groups
+  pub adds : AddsIn old.groups settled mid.groups
+  pub discards : AddsIn mid.groups (all_discarded discarded) new.groups
   pub tells : IfUp after (Tells before input settled)
 
 pub acts : (ledger : Ledger) (old new : Broker) (number now : ℕ) (phase phase' : ConnPhase GroupPlace) (input : Input) (packets : List Packet) (next : Then)
-    → Steps Calls slot_of old number phase now input packets next phase' new → Owns (with_hand ledger number (connected_of phase)) old
-    → Acts ledger old number (connected_of phase) input (connected_of phase') new
+    (steps : Steps Calls slot_of old number phase now input packets next phase' new) → Owns (with_hand ledger number (connected_of phase)) old
+    → Acts (discarded_by Calls slot_of steps.between steps.mid new steps.sent phase' steps.hands) ledger old steps.mid number (connected_of phase) input (connected_of phase') new
 acts ledger old new number now phase phase' input packets next steps was =
     let done = reacted phase input ledger number old steps.mid now steps.between steps.reply steps.reacts (enter_as ledger number (connected_of phase) old was) in
     let end = handed steps.between (with_log (with_hand ledger number None) done.log') steps.mid new steps.sent phase'
@@ -315,10 +324,9 @@ acts ledger old new number now phase phase' input packets next steps was =
       brought = done.brought;
       owns =
           subst (λ (log : Log). Owns (with_log (with_hand ledger number (connected_of phase')) log) new) done.grows
-          (leave_as (with_log ledger done.log') number (connected_of phase') new end.0.holds);
+          (leave_as (with_log ledger done.log') number (connected_of phase') new end.holds);
       settled = done.settled;
-      adds =
-          subst (λ (s : List Settlement). AddsIn old.groups s new.groups) (append-nil done.settled)
-          (adds_then done.settled [] old.groups steps.mid.groups new.groups done.adds end.0.adds);
-      tells = end.1;
+      adds = done.adds;
+      discards = end.adds;
+      tells = end.says;
     }

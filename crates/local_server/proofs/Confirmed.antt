@@ -22,7 +22,7 @@ use Rattle.conn_engine.specs.declared.phase.ConnPhase.{ConnPhase}
 use Rattle.conn_engine.specs.declared.phase.ConnPhase.TheVariants.{Unconnected, Waiting, Connected, Ended}
 use Rattle.conn_engine.specs.Connecting.{has_place}
 use Rattle.conn_engine.specs.Step.{Steps}
-use Rattle.conn_laws.specs.Calls.{Confirms, SettlesOne, SettlesNone}
+use Rattle.conn_laws.specs.Calls.{discards_of, Confirms, SettlesOne, SettlesNone}
 use Rattle.conn_laws.specs.Marks.{acknowledged_of, IsAckedBy}
 use Rattle.conn_laws.specs.Transcripts.{connected_of, SessionSteps, Transcribes}
 use Rattle.local_broker.specs.Places.{GroupPlace}
@@ -130,10 +130,10 @@ module _ (old new : Broker) (number now : ℕ) (phase phase' : ConnPhase GroupPl
       let input = inputs.Packet (packets.Puback puback) in
       let there : confirmed_by entries input ≡ confirmed_by window input = ap (λ (es : Entries). confirmed_by es input) same in
       ⊎_elim
-      (λ (one : SettlesOne phase input step.supply_calls × ((acked : ℕ × ℕ) × (acknowledged_of step.marks ≡ acked ∷ []) × IsAckedBy input acked)).
+      (λ (one : SettlesOne phase input step.supply_calls (discards_of step.outcomes) × ((acked : ℕ × ℕ) × (acknowledged_of step.marks ≡ acked ∷ []) × IsAckedBy input acked)).
       let confirmed = subst (λ (s : ConnPhase GroupPlace). Confirms s input one.0.envelope one.0.fate) is one.0.confirmed in
       one.1.1 ∙ ap (λ (a : ℕ × ℕ). a ∷ []) one.1.2 ∙ sym (there ∙ one_confirmed window puback one.0.envelope confirmed.1))
-      (λ (none : SettlesNone phase input step.supply_calls next × (acknowledged_of step.marks ≡ [])).
+      (λ (none : SettlesNone phase input step.supply_calls next (discards_of step.outcomes) × (acknowledged_of step.marks ≡ [])).
       let nowhere : (envelope : Held) → ¬ Contains window (puback.packet_identifier, envelope) = λ envelope has.
       (let taken = none.0.unless envelope (fate_of puback.reason_code)
       (subst (λ (s : ConnPhase GroupPlace). Confirms s input envelope (fate_of puback.reason_code)) (sym is)
@@ -147,8 +147,8 @@ module _ (old new : Broker) (number now : ℕ) (phase phase' : ConnPhase GroupPl
       → acknowledged_of step.marks ≡ []
   other_heard input step no_puback =
       ⊎_elim
-      (λ (one : SettlesOne phase input step.supply_calls × ((acked : ℕ × ℕ) × (acknowledged_of step.marks ≡ acked ∷ []) × IsAckedBy input acked)). absurd (no_puback one.1.0 one.1.2))
-      (λ (none : SettlesNone phase input step.supply_calls next × (acknowledged_of step.marks ≡ [])). none.1)
+      (λ (one : SettlesOne phase input step.supply_calls (discards_of step.outcomes) × ((acked : ℕ × ℕ) × (acknowledged_of step.marks ≡ acked ∷ []) × IsAckedBy input acked)). absurd (no_puback one.1.0 one.1.2))
+      (λ (none : SettlesNone phase input step.supply_calls next (discards_of step.outcomes) × (acknowledged_of step.marks ≡ [])). none.1)
       step.settles
 
   abbrev Steps_by : Input → Type 0

@@ -5,10 +5,9 @@ use Rattle.std.proofs.lemmas.Grind.{flat_map-append}
 use Rattle.std.proofs.lemmas.List.Elements.{filter-append}
 use Rattle.group_jobs.specs.Stamps.{Held}
 use Rattle.member_window.specs.Marks.{Mark}
-use Rattle.conn_laws.specs.Marks.{fresh_of}
 use Rattle.client_table.specs.Clients.{StepOutput}
 use Rattle.local_server.specs.ConnSteps.{ConnStep, AllTell, conn_steps_of}
-use Rattle.local_server.specs.Transcripts.{marks_for, transcript_of, IsStepOf, AreStepsOf, last_place, all_fresh}
+use Rattle.local_server.specs.Transcripts.{marks_for, transcript_of, IsStepOf, AreStepsOf, last_place, handed_in_step, all_handed}
 
 -- the transcripts after one more step
 more_marks : (number : ℕ) (conn_steps : List ConnStep) (conn_step : ConnStep) → transcript_of number (conn_steps ++ conn_step ∷ []) ≡ transcript_of number conn_steps ++ marks_for number conn_step
@@ -34,9 +33,9 @@ nothing false m none = refl
 pub quiet_marks : (number : ℕ) (conn_steps : List ConnStep) (conn_step : ConnStep) → conn_step.marks ≡ [] → transcript_of number (conn_steps ++ conn_step ∷ []) ≡ transcript_of number conn_steps
 quiet_marks number conn_steps conn_step none = no_more_marks number conn_steps conn_step (nothing (nat_eq conn_step.session number) conn_step.marks none)
 
-pub more_fresh : (conn_steps : List ConnStep) (conn_step : ConnStep) → all_fresh (conn_steps ++ conn_step ∷ []) ≡ all_fresh conn_steps ++ fresh_of conn_step.marks
-more_fresh conn_steps conn_step =
-    flat_map-append (λ (t : ConnStep). fresh_of t.marks) conn_steps (conn_step ∷ []) ∙ ap (λ (m : List Held). all_fresh conn_steps ++ m) (append-nil (fresh_of conn_step.marks))
+pub more_handed : (conn_steps : List ConnStep) (conn_step : ConnStep) → all_handed (conn_steps ++ conn_step ∷ []) ≡ all_handed conn_steps ++ handed_in_step conn_step
+more_handed conn_steps conn_step =
+    flat_map-append handed_in_step conn_steps (conn_step ∷ []) ∙ ap (λ (m : List Held). all_handed conn_steps ++ m) (append-nil (handed_in_step conn_step))
 
 -- the steps of a connection after one more
 lead_on : (conn_steps : List ConnStep) (before between after : Option ℕ) (conn_step : ConnStep) → AreStepsOf before conn_steps between → IsStepOf between conn_step after

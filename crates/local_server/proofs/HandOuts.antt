@@ -3,7 +3,7 @@ use Rattle.std.proofs.Common.{◌≡◌, ℕ, if◌then◌else◌, nat_eq, List,
 use Rattle.std.specs.Prelude.{⊤}
 use Rattle.std.specs.List.{AllByRecursion, cons_option}
 use Rattle.mqtt_topic.specs.Names.{Share}
-use Rattle.group_jobs.specs.Stamps.{Held, job_of, under}
+use Rattle.group_jobs.specs.Stamps.{Held, job_of}
 use Rattle.local_group.specs.Groups.{Group}
 use Rattle.conn_supply.specs.declared.supply.NoMemory.{NoMemory}
 use Rattle.conn_supply.specs.SupplyCalls.{SupplyCall}
@@ -16,7 +16,7 @@ use Rattle.local_broker.specs.Histories.{Happening, Called, Closed, Happens, Hap
 use Rattle.local_broker.specs.HandOuts.{HandOut, handed_by, handed_by_all, handed_in_all, seen_by_group}
 use Rattle.local_broker.specs.HandOuts as hand_outs
 use Rattle.local_broker.proofs.Happened.{running_all, running_first}
-use Rattle.local_broker.proofs.HandedOut.{handed_all}
+use Rattle.local_broker.proofs.HandedOut.{handed_all as local_handed}
 use Rattle.local_server.specs.Transcripts.{seen_by}
 
 -- the message says which group handed it out, and to which of its places
@@ -89,20 +89,9 @@ seen_all slot (hand_out ∷ others) all =
     let rest = seen_all slot others all.1 in
     λ i. cons_option (one i) (rest i)
 
--- a message without its Subscription Identifier
-abbrev pub plain : Held → Held
-plain envelope = under None envelope
-
--- a group sees it as it sees the message
-seen_plain : (slot : ℕ) (all : List Held) → filter_map (seen_by slot) (map plain all) ≡ filter_map (seen_by slot) all
-seen_plain slot [] = refl
-seen_plain slot (envelope ∷ others) = ap (cons_option (seen_by slot envelope)) (seen_plain slot others)
-
-pub handed : (capacity : ℕ) (shares : List Share) (happenings : List Happening) (first b : Broker) (fresh : List Held) → IsNewBroker capacity shares first
-    → HappensAll first happenings b
-    → map plain fresh ≡ map plain (map (λ (h : HandOut). h.1) (handed_by_all happenings)) → (slot : ℕ) (group : Group) → slice_get b.groups slot ≡ Some group
-    → handed_in_all group.events ≡ filter_map (seen_by slot) fresh
-handed capacity shares happenings first b fresh new all is slot group there =
-    handed_all capacity shares happenings first b new all slot group there
-    ∙ seen_all slot (handed_by_all happenings) (all_belong happenings first b (running_first capacity shares first new) all)
-    ∙ sym (seen_plain slot (map (λ (h : HandOut). h.1) (handed_by_all happenings))) ∙ ap (filter_map (seen_by slot)) (sym is) ∙ seen_plain slot fresh
+pub handed : (capacity : ℕ) (shares : List Share) (happenings : List Happening) (first b : Broker) (all_handed : List Held) → IsNewBroker capacity shares first
+    → HappensAll first happenings b → all_handed ≡ map (λ (h : HandOut). h.1) (handed_by_all happenings) → (slot : ℕ) (group : Group) → slice_get b.groups slot ≡ Some group
+    → handed_in_all group.events ≡ filter_map (seen_by slot) all_handed
+handed capacity shares happenings first b all_handed new all is slot group there =
+    ◌∙◌ {b = seen_by_group slot (handed_by_all happenings)} (local_handed capacity shares happenings first b new all slot group there)
+    (seen_all slot (handed_by_all happenings) (all_belong happenings first b (running_first capacity shares first new) all) ∙ ap (filter_map (seen_by slot)) (sym is))

@@ -3,7 +3,6 @@ use Rattle.std.proofs.Common.{◌≡◌, ℕ, zero, suc, Bool, true, false, List
 use Rattle.std.specs.Result.{result_and}
 use Rattle.std.specs.List.{cons_option}
 use Rattle.std.proofs.lemmas.Bool.{false≢true}
-use Rattle.std.proofs.lemmas.List.{map-append}
 use Rattle.std.proofs.lemmas.List.Elements.{filter_map-append}
 use Rattle.dispatch_core.proofs.RunLaws.{lawful_run}
 use Rattle.session_desk.specs.Hands.{DeskLaw}
@@ -11,15 +10,16 @@ use Rattle.conn_supply.specs.declared.supply.NoMemory.{NoMemory}
 use Rattle.conn_supply.specs.SupplyCalls.{SupplyCall}
 use Rattle.conn_engine.specs.declared.input.Input.{Input}
 use Rattle.conn_engine.specs.declared.input.Input.TheVariants as inputs
-use Rattle.conn_laws.specs.Calls.{hand_out_of, handed, messages_of, MakesAll, CallsLead}
+use Rattle.conn_laws.specs.Calls.{hand_out_of, handed, Outcome, hand_outs_of, sent_of, messages_of, MakesAll, CallsLead}
+use Rattle.conn_laws.proofs.HandingOut.{hands_of_both}
 use Rattle.client_table.specs.Clients.{ClientState, StepOutput}
 use Rattle.client_table.specs.Cells.{Receives, TicksFor, EndsFor}
 use Rattle.client_table.specs.Deliveries.{fresh_sent, Delivers}
-use Rattle.client_table.proofs.Calling.{fresh_sent-append, receives_told, ticks_told, ends_told, receives, ticks_for, ends_for}
+use Rattle.client_table.proofs.Calling.{fresh_sent-append, messages_of_both, receives_told, ticks_told, ends_told, receives, ticks_for, ends_for}
 use Rattle.local_broker.specs.Places.{GroupPlace}
 use Rattle.local_broker.specs.Broker.{Broker, is_open}
 use Rattle.local_broker.specs.Calls.{Calls, Closes}
-use Rattle.local_broker.specs.HandOuts.{HandOut, handed_by, handed_by_all}
+use Rattle.local_broker.specs.HandOuts.{handed_by, handed_by_all, seen_by_group}
 use Rattle.local_broker.specs.Histories.{Happening, HappensAll as HappensToBroker}
 use Rattle.local_broker.specs.Histories.Happening.{Called, Closed}
 use Rattle.local_broker.proofs.HandedOut.{handed_all}
@@ -34,25 +34,33 @@ use Rattle.local_server.specs.GoingThrough.{GoesThrough}
 use Rattle.local_server.specs.Deliveries.{HandsOutWhatIsSent}
 use Rattle.local_server.specs.Runs.{IsReachedBy, AllRunLawfully}
 
+-- what was handed out is what was said, but for what was discarded
+record Told (happenings : List Happening) (said : List StepOutput) : Type 0 where
+  outcomes : List (Outcome GroupPlace)
+  handed_out : handed_by_all happenings ≡ hand_outs_of outcomes
+  sent : fresh_sent said ≡ messages_of (sent_of outcomes)
+
 -- what happened to a broker in an event by which this was said; what was said is what was handed out, where no allocation failed
 record Ran (result : Result (Unit {0}) NoMemory) (old : Broker) (said : List StepOutput) (new : Broker) : Type 0 where
   happenings : List Happening
   led : HappensToBroker old happenings new
-  told : IsOk result → fresh_sent said ≡ messages_of (handed_by_all happenings)
+  told : IsOk result → Told happenings said
 
 still : (result : Result (Unit {0}) NoMemory) (old new : Broker) (said : List StepOutput) → said ≡ [] → new ≡ old → Ran result old said new
-still result old new said none same = record { happenings = []; led = same; told = λ ok. ap fresh_sent none }
+still result old new said none same = record { happenings = []; led = same; told = λ ok. record { outcomes = []; handed_out = refl; sent = ap fresh_sent none } }
 
 pub joins : (happenings others : List Happening) (old mid new : Broker) → HappensToBroker old happenings mid → HappensToBroker mid others new → HappensToBroker old (happenings ++ others) new
 joins [] others old mid new these those = subst (λ b. HappensToBroker b others new) these those
 joins (happening ∷ happenings) others old mid new these those = (these.0, these.1, joins happenings others these.0 mid new these.2 those)
 
 -- what is said first and then, and what is handed out first and then
-told_behind : (said more : List StepOutput) (happenings others : List Happening) → fresh_sent said ≡ messages_of (handed_by_all happenings) → fresh_sent more ≡ messages_of (handed_by_all others)
-    → fresh_sent (said ++ more) ≡ messages_of (handed_by_all (happenings ++ others))
-told_behind said more happenings others these those =
-    fresh_sent-append said more ∙ (λ i. these i ++ those i)
-    ∙ sym (ap messages_of (filter_map-append handed_by happenings others) ∙ map-append (λ (h : HandOut). h.1.message) (handed_by_all happenings) (handed_by_all others))
+told_behind : (said more all : List StepOutput) (happenings others : List Happening) → all ≡ said ++ more → Told happenings said → Told others more → Told (happenings ++ others) all
+told_behind said more all happenings others is these those =
+    record {
+      outcomes = these.outcomes ++ those.outcomes;
+      handed_out = filter_map-append handed_by happenings others ∙ (λ i. these.handed_out i ++ those.handed_out i) ∙ sym (hands_of_both these.outcomes those.outcomes);
+      sent = ap fresh_sent is ∙ fresh_sent-append said more ∙ (λ i. these.sent i ++ those.sent i) ∙ sym (messages_of_both these.outcomes those.outcomes);
+    }
 
 pub first_ok : (first then : Result (Unit {0}) NoMemory) → IsOk (result_and first then) → IsOk first
 first_ok (Ok done) then ok = refl
@@ -68,7 +76,7 @@ behind first then old mid new said more all is these those =
     record {
       happenings = these.happenings ++ those.happenings;
       led = joins these.happenings those.happenings old mid new these.led those.led;
-      told = λ ok. ap fresh_sent is ∙ told_behind said more these.happenings those.happenings (these.told (first_ok first then ok)) (those.told (then_ok first then ok));
+      told = λ ok. told_behind said more all these.happenings those.happenings is (these.told (first_ok first then ok)) (those.told (then_ok first then ok));
     }
 
 -- calls of connections
@@ -82,7 +90,11 @@ handed_by_calls (supply_call ∷ supply_calls) = ap (cons_option (hand_out_of su
 
 by_calls : (result : Result (Unit {0}) NoMemory) (old new : Broker) (said : List StepOutput) → Delivers Calls old said new → Ran result old said new
 by_calls result old new said calls =
-    record { happenings = map Called calls.supply_calls; led = called calls.supply_calls old new calls.made; told = λ ok. calls.told ∙ ap messages_of (sym (handed_by_calls calls.supply_calls)) }
+    record {
+      happenings = map Called calls.supply_calls;
+      led = called calls.supply_calls old new calls.made;
+      told = λ ok. record { outcomes = calls.outcomes; handed_out = handed_by_calls calls.supply_calls ∙ calls.handed_out; sent = calls.told };
+    }
 
 cut_short : (error : NoMemory) (old new : Broker) (said : List StepOutput) → CallsLead Calls old new → Ran (Err error) old said new
 cut_short error old new said calls = record { happenings = map Called calls.0; led = called calls.0 old new calls.1; told = λ ok. absurd (false≢true ok) }
@@ -120,7 +132,7 @@ pub each_ended : (number : ℕ) (old new : Broker) (clients clients' : Clients) 
 each_ended number old new clients clients' now said result ends = let run = first_ended number old new clients clients' now said result ends in (run.happenings, run.led)
 
 all_closed : (old closed : Broker) → Closes old closed → Ran (Ok tt) old [] closed
-all_closed old closed closes = record { happenings = Closed ∷ []; led = (closed, closes, refl); told = λ ok. refl }
+all_closed old closed closes = record { happenings = Closed ∷ []; led = (closed, closes, refl); told = λ ok. record { outcomes = []; handed_out = refl; sent = refl } }
 
 closed : (result : Result (Unit {0}) NoMemory) (old new : Broker) (clients clients' : Clients) (now : ℕ) (said : List StepOutput)
     → ClosesAll old clients now said result clients' new → Ran result old said new
@@ -170,10 +182,12 @@ undergoes (first ∷ others) said old new all = (all.0, all.1, Ok tt, all.3, und
 pub hands : (setup : Setup) (events : List TimedEvent) (said : List StepOutput) (first last : ServerState) → IsNewServer setup first → HappensAll first events said last → HandsOutWhatIsSent last said
 hands setup events said first last new all =
     let run = all_ran events said first last all in
+    let told = run.told refl in
     record {
-      hand_outs = handed_by_all run.happenings;
-      sent = run.told refl;
-      handed = handed_all setup.capacity setup.groups run.happenings first.broker last.broker new.broker run.led;
+      outcomes = told.outcomes;
+      sent = told.sent;
+      handed = λ slot group there.
+          handed_all setup.capacity setup.groups run.happenings first.broker last.broker new.broker run.led slot group there ∙ ap (seen_by_group slot) told.handed_out;
     }
 
 pub runs : (setup : Setup) (events : List TimedEvent) (first last : ServerState) → IsNewServer setup first → GoesThrough first events last → AllRunLawfully last.broker

@@ -1,5 +1,5 @@
 -- The session of a connection is handed in, and memberships change: what is held stays out.
-use Rattle.std.proofs.Common.{◌≡◌, ◌⊎◌, ℕ, Bool, List, [], ◌∷◌, Option, Some, None, Result, Ok, Err, Contains, refl, sym, ap, subst, ◌∙◌, inl, inr, ⊎_elim}
+use Rattle.std.proofs.Common.{◌≡◌, ◌⊎◌, ℕ, List, [], ◌∷◌, Option, Some, None, Result, Ok, Err, Contains, refl, sym, ap, subst, ◌∙◌, inl, inr, ⊎_elim}
 use Rattle.mqtt_topic.specs.declared.error.TopicError.{TopicError}
 use Rattle.mqtt_topic.specs.Names.{Share, share_of}
 use Rattle.mqtt_packet.specs.declared.packet.Subscription.{Subscription}

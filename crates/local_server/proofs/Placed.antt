@@ -4,7 +4,7 @@ use Rattle.std.specs.List.{AllByRecursion, cons_option}
 use Rattle.std.proofs.lemmas.Bool.{cases_eq}
 use Rattle.group_jobs.specs.Stamps.{Held}
 use Rattle.conn_supply.specs.SupplyCalls.{SupplyCall}
-use Rattle.conn_supply.specs.SupplyCalls.SupplyCall.{Take, TakeBack}
+use Rattle.conn_supply.specs.SupplyCalls.SupplyCall.{Take, TakeBack, Settle}
 use Rattle.conn_engine.specs.declared.phase.ConnectedClient.{ConnectedClient}
 use Rattle.conn_laws.specs.Calls.{hand_out_of, handed, MakesAll}
 use Rattle.conn_laws.specs.Transcripts.{IsMemberAt, KeepsNumbers}
@@ -31,10 +31,11 @@ slot_in place = place.slot
 abbrev number_in : GroupPlace → ℕ
 number_in place = place.number
 
--- a place that is asked for a message stays what it is
+-- a place that is asked for a message, or settles one, stays what it is
 keeps_numbers : (of : GroupPlace → ℕ) → KeepsNumbers Calls of
 keeps_numbers of old new (Take place place' answer) does = ap of does.1
 keeps_numbers of old new (TakeBack place place' answer) does = ap of does.1
+keeps_numbers of old new (Settle place place' envelope fate) does = ap of does.1
 keeps_numbers of old new other does = tt
 
 -- what is handed out has the place
@@ -82,10 +83,12 @@ of_session (Some connected) (hand_out ∷ others) slots numbers own =
       of_session (Some connected) others slots.1 numbers.1 own.1,
     )
 
-pub sends_own : (supply_calls : List (SupplyCall GroupPlace)) (old new : Broker) (connected : Option (ConnectedClient GroupPlace)) → AreRunning old → MakesAll Calls old supply_calls new
-    → ((of : GroupPlace → ℕ) → KeepsNumbers Calls of → AreMembers of connected (handed supply_calls)) → AllByRecursion (IsAt (place_of connected)) (map (λ (h : HandOut). h.1) (handed supply_calls))
-sends_own supply_calls old new connected running made members =
-    of_session connected (handed supply_calls) (members slot_in (keeps_numbers slot_in)) (members number_in (keeps_numbers number_in)) (all_handed supply_calls old new running made)
+pub handed_own : (supply_calls : List (SupplyCall GroupPlace)) (hand_outs : List HandOut) (old new : Broker) (connected : Option (ConnectedClient GroupPlace)) → AreRunning old → MakesAll Calls old supply_calls new
+    → handed supply_calls ≡ hand_outs → ((of : GroupPlace → ℕ) → KeepsNumbers Calls of → AreMembers of connected hand_outs)
+    → AllByRecursion (IsAt (place_of connected)) (map (λ (h : HandOut). h.1) hand_outs)
+handed_own supply_calls hand_outs old new connected running made are members =
+    of_session connected hand_outs (members slot_in (keeps_numbers slot_in)) (members number_in (keeps_numbers number_in))
+    (subst (AllByRecursion IsItsOwn) are (all_handed supply_calls old new running made))
 
 -- where the steps of each connection lead, after one more step
 pub leads_to : (conn_steps : List ConnStep) (conn_step : ConnStep) (all_connected : Links) (number : ℕ) (after : Option (ConnectedClient GroupPlace)) → conn_step.connection ≡ number → conn_step.place ≡ place_of after

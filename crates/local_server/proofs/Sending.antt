@@ -3,6 +3,7 @@ use Rattle.std.proofs.Common.{◌≡◌, ◌≢◌, ℕ, not, Bool, if◌then◌
 use Rattle.std.proofs.lemmas.Bool.{cases_eq, eq-eqb, ne_eqb}
 use Rattle.std.proofs.lemmas.List.Elements.{Contains-append_left, Contains-append_right, Contains-append_cases}
 use Rattle.std.proofs.lemmas.Option.{same_Some}
+use Rattle.group_jobs.specs.declared.fate.Fate.{Fate}
 use Rattle.group_jobs.specs.Stamps.{Held}
 use Rattle.member_window.specs.Identifiers.{identifiers, entries_without, AreDistinct}
 use Rattle.member_window.specs.Contents.{Contents, held_of, after_ack}
@@ -89,13 +90,13 @@ only : (k i : ℕ) (e0 e : Held) → Contains {X = ℕ × Held} ((k, e0) ∷ [])
 only k i e0 e c =
     ⊎_elim (λ (is : IsEntry (k, e0) (i, e)). is) (λ (none : Contains {X = ℕ × Held} [] (i, e)). absurd (contains_nil (i, e) none)) (contains_cons_cases (k, e0) [] (i, e) c)
 
-settle_runs : (place place' : GroupPlace) (k : ℕ) (envelope : Held) (code : ℕ) (old new : Broker) → Calls old (Settle place place' envelope (fate_of code)) new
+pub settle_runs : (place place' : GroupPlace) (k : ℕ) (envelope : Held) (how : Fate) (old new : Broker) → Calls old (Settle place place' envelope how) new
     → Runs ((k, envelope) ∷ []) old new
-settle_runs place place' k envelope code old new does =
+settle_runs place place' k envelope how old new does =
     record {
-      running = λ is. running_all (Called (Settle place place' envelope (fate_of code)) ∷ []) old new is (new, does, refl);
+      running = λ is. running_all (Called (Settle place place' envelope how) ∷ []) old new is (new, does, refl);
       out = λ at other has apart.
-          stays_all (Called (Settle place place' envelope (fate_of code)) ∷ []) old new at other has (new, does, refl) (apart k envelope (contains_here (k, envelope) []), tt);
+          stays_all (Called (Settle place place' envelope how) ∷ []) old new at other has (new, does, refl) (apart k envelope (contains_here (k, envelope) []), tt);
       desk = same_rows old new (ap (λ b. b.rows) does.2.desk);
     }
 
@@ -107,7 +108,7 @@ module _ (ledger : Ledger) (old new : Broker) (membership : Membership GroupPlac
   settles_one place' envelope its distinct has does was =
       let entries = held_of window in
       let spent : Entries = (k, envelope) ∷ [] in
-      let runs = settle_runs place place' k envelope code old new does in
+      let runs = settle_runs place place' k envelope (fate_of code) old new does in
       let out = its was.mine.owned k envelope has in
       let part : (i : ℕ) (e : Held) → Contains (held_of (after_ack window k)) (i, e) → Contains entries (i, e) = λ i e c. (acked_still window k i e c).0 in
       let rest : Holds ledger old membership (held_of (after_ack window k)) = less ledger old membership membership entries (held_of (after_ack window k)) part

@@ -18,7 +18,7 @@ use Rattle.conn_engine.specs.declared.input.Input.TheVariants as inputs
 use Rattle.conn_engine.specs.declared.phase.ConnectedClient.{ConnectedClient}
 use Rattle.conn_engine.specs.declared.phase.ConnPhase.{ConnPhase}
 use Rattle.conn_engine.specs.declared.phase.ConnPhase.TheVariants.{Unconnected, Waiting, Connected, Ended}
-use Rattle.conn_laws.specs.Calls.{Confirms, SettlesNone}
+use Rattle.conn_laws.specs.Calls.{discards_of, Confirms, SettlesNone}
 use Rattle.conn_laws.specs.Marks.{acknowledged_of, IsAckedBy}
 use Rattle.conn_laws.specs.Transcripts.{connected_of, Transcribes}
 use Rattle.local_broker.specs.Places.{GroupPlace}
@@ -161,12 +161,12 @@ legal_behind (mark ∷ before) behind s legal = legal_behind before behind (wind
 pub none_first : (phase phase' : ConnPhase GroupPlace) (old new : Broker) (number : ℕ) (input : Input) (sent : List Packet) (next : Then) → connected_of phase ≡ None
     → (step : Transcribes Calls old number phase input sent next phase' new) → acknowledged_of step.marks ≡ []
 none_first (Unconnected opened) phase' old new number input sent next none step =
-    ⊎_elim (λ one. absurd one.0.confirmed) (λ (nothing : SettlesNone (Unconnected opened) input step.supply_calls next × (acknowledged_of step.marks ≡ [])). nothing.1) step.settles
+    ⊎_elim (λ one. absurd one.0.confirmed) (λ (nothing : SettlesNone (Unconnected opened) input step.supply_calls next (discards_of step.outcomes) × (acknowledged_of step.marks ≡ [])). nothing.1) step.settles
 none_first (Waiting request ticks) phase' old new number input sent next none step =
-    ⊎_elim (λ one. absurd one.0.confirmed) (λ (nothing : SettlesNone (Waiting request ticks) input step.supply_calls next × (acknowledged_of step.marks ≡ [])). nothing.1) step.settles
+    ⊎_elim (λ one. absurd one.0.confirmed) (λ (nothing : SettlesNone (Waiting request ticks) input step.supply_calls next (discards_of step.outcomes) × (acknowledged_of step.marks ≡ [])). nothing.1) step.settles
 none_first (Connected connected) phase' old new number input sent next none step = absurd (cc)
 none_first Ended phase' old new number input sent next none step =
-    ⊎_elim (λ one. absurd one.0.confirmed) (λ (nothing : SettlesNone Ended input step.supply_calls next × (acknowledged_of step.marks ≡ [])). nothing.1) step.settles
+    ⊎_elim (λ one. absurd one.0.confirmed) (λ (nothing : SettlesNone Ended input step.supply_calls next (discards_of step.outcomes) × (acknowledged_of step.marks ≡ [])). nothing.1) step.settles
 
 -- one that has its own acknowledges what that holds, or nothing
 pub record AcksOne (connected : ConnectedClient GroupPlace) (marks : Marks) : Type 0 where
@@ -189,5 +189,5 @@ acks (Connected own) phase' connected old new number input sent next is step =
     subst (λ (l : ConnectedClient GroupPlace). AcksOne l step.marks ⊎ (acknowledged_of step.marks ≡ [])) (same_Some own connected is)
     (⊎_elim
     (λ one. inl (confirmed_one input own step.marks one.1.0 one.0.envelope one.0.fate one.0.confirmed one.1.1 one.1.2))
-    (λ (nothing : SettlesNone (Connected own) input step.supply_calls next × (acknowledged_of step.marks ≡ [])). inr nothing.1) step.settles)
+    (λ (nothing : SettlesNone (Connected own) input step.supply_calls next (discards_of step.outcomes) × (acknowledged_of step.marks ≡ [])). inr nothing.1) step.settles)
 acks Ended phase' connected old new number input sent next is step = absurd (cc)

@@ -17,6 +17,7 @@ use Rattle.conn_engine.specs.declared.input.Input.{Input}
 use Rattle.conn_engine.specs.declared.phase.ConnectedClient.{ConnectedClient}
 use Rattle.conn_engine.specs.Ending.{down}
 use Rattle.conn_laws.specs.Marks.{IsWithin}
+use Rattle.conn_laws.specs.Calls.{Outcome}
 use Rattle.conn_laws.specs.Transcripts.{session_given, LeadsAside, AsksForOne, SessionBegins, SessionGoesOn, SessionEnds, AsksInVain, SessionSteps}
 use Rattle.local_broker.specs.Places.{GroupPlace}
 use Rattle.local_broker.specs.Broker.{Broker}
@@ -41,7 +42,7 @@ GoesAs (Some connected) (Some connected') next = next ≡ Go
 GoesAs (Some connected) None next = next ≢ Go
 
 -- a step of this connection added these marks
-pub record AddsStep (conn_steps : List ConnStep) (all_connected : Links) (number : ℕ) (input : Input) (next : Then) (marks : List (Mark Held)) (after : Option (ConnectedClient GroupPlace)) (new : Broker)
+pub record AddsStep (conn_steps : List ConnStep) (all_connected : Links) (number : ℕ) (input : Input) (next : Then) (marks : List (Mark Held)) (outcomes : List (Outcome GroupPlace)) (after : Option (ConnectedClient GroupPlace)) (new : Broker)
     : Type 0 where
   pub conn_step : ConnStep
   pub whose : conn_step.connection ≡ number
@@ -49,6 +50,7 @@ pub record AddsStep (conn_steps : List ConnStep) (all_connected : Links) (number
   pub next_is : conn_step.next ≡ next
   pub place_is : conn_step.place ≡ place_of after
   pub marks_are : conn_step.marks ≡ marks
+  pub outcomes_are : conn_step.outcomes ≡ outcomes
   pub session : (connected : ConnectedClient GroupPlace) → all_connected number ≡ Some connected → conn_step.session ≡ connected.session.identity.number
   pub session_then : (connected : ConnectedClient GroupPlace) → after ≡ Some connected → conn_step.session ≡ connected.session.identity.number
   pub keeps : KeepsSessions (conn_steps ++ conn_step ∷ []) new.desk (with_connected all_connected number after)
@@ -97,13 +99,13 @@ has_connected conn_steps conn_step new connected its holds leads up other is =
       up = up;
     })
 
-begins : (conn_steps : List ConnStep) (old new : Broker) (all_connected : Links) (number : ℕ) (input : Input) (next : Then) (connected : ConnectedClient GroupPlace) (marks : List (Mark Held))
+begins : (conn_steps : List ConnStep) (old new : Broker) (all_connected : Links) (number : ℕ) (input : Input) (next : Then) (connected : ConnectedClient GroupPlace) (marks : List (Mark Held)) (outcomes : List (Outcome GroupPlace))
     → SessionBegins Calls old number connected marks new → next ≡ Go
-    → all_connected number ≡ None → KeepsSessions conn_steps old.desk all_connected → AddsStep conn_steps all_connected number input next marks (Some connected) new
-begins conn_steps old new all_connected number input next connected marks begin on free was =
+    → all_connected number ≡ None → KeepsSessions conn_steps old.desk all_connected → AddsStep conn_steps all_connected number input next marks outcomes (Some connected) new
+begins conn_steps old new all_connected number input next connected marks outcomes begin on free was =
     let session = begin.session in
     let got = got_aside conn_steps begin.mid new all_connected number session begin.aside (gets conn_steps old begin.mid all_connected number begin.answer session begin.given begin.asks was) in
-    let conn_step : ConnStep = record { connection = number; input = input; next = next; session = session.identity.number; place = place_of (Some connected); marks = marks } in
+    let conn_step : ConnStep = record { connection = number; input = input; next = next; session = session.identity.number; place = place_of (Some connected); marks = marks; outcomes = outcomes } in
     let its : session.identity.number ≡ connected.session.identity.number = ap (λ w. w.number) (sym begin.same) in
     let up =
     leads_up (transcript_of session.identity.number conn_steps) connected.terms.receive_maximum session.window connected.session.window begin.calls got.in_hand.stands.leads begin.within begin.made in
@@ -118,18 +120,19 @@ begins conn_steps old new all_connected number input next connected marks begin 
       next_is = refl;
       place_is = refl;
       marks_are = refl;
+      outcomes_are = refl;
       session = λ other has. absurd (cc);
       session_then = λ other is. its ∙ ap (λ (l : ConnectedClient GroupPlace). l.session.identity.number) (same_Some connected other is);
       keeps = turned conn_steps conn_step new.desk all_connected (Some connected) got.keeps got.in_hand.holds is_conn_step leads.legal (has_connected conn_steps conn_step new connected its got.in_hand.holds leads up.1);
     }
 
-goes_on : (conn_steps : List ConnStep) (old new : Broker) (all_connected : Links) (number : ℕ) (input : Input) (next : Then) (connected connected' : ConnectedClient GroupPlace) (marks : List (Mark Held))
+goes_on : (conn_steps : List ConnStep) (old new : Broker) (all_connected : Links) (number : ℕ) (input : Input) (next : Then) (connected connected' : ConnectedClient GroupPlace) (marks : List (Mark Held)) (outcomes : List (Outcome GroupPlace))
     → SessionGoesOn Calls old connected connected' marks new → next ≡ Go
-    → all_connected number ≡ Some connected → KeepsSessions conn_steps old.desk all_connected → AddsStep conn_steps all_connected number input next marks (Some connected') new
-goes_on conn_steps old new all_connected number input next connected connected' marks goes on has was =
+    → all_connected number ≡ Some connected → KeepsSessions conn_steps old.desk all_connected → AddsStep conn_steps all_connected number input next marks outcomes (Some connected') new
+goes_on conn_steps old new all_connected number input next connected connected' marks outcomes goes on has was =
     let keeps = step_aside conn_steps old new all_connected goes.aside was in
     let had = keeps.has_connected number connected has in
-    let conn_step : ConnStep = record { connection = number; input = input; next = next; session = connected.session.identity.number; place = place_of (Some connected'); marks = marks } in
+    let conn_step : ConnStep = record { connection = number; input = input; next = next; session = connected.session.identity.number; place = place_of (Some connected'); marks = marks; outcomes = outcomes } in
     let its : connected.session.identity.number ≡ connected'.session.identity.number = ap (λ w. w.number) (sym goes.same) in
     let up = stays_up goes.calls connected.session.window connected'.session.window had.up (subst (AllByRecursion IsWithin) goes.marks_are goes.within) goes.made in
     let leads = leads_there conn_steps conn_step (made_by goes.calls) connected'.session.window goes.marks_are
@@ -143,19 +146,20 @@ goes_on conn_steps old new all_connected number input next connected connected' 
       next_is = refl;
       place_is = refl;
       marks_are = refl;
+      outcomes_are = refl;
       session = λ other is. ap (λ (l : ConnectedClient GroupPlace). l.session.identity.number) (same_Some connected other (sym has ∙ is));
       session_then = λ other is. its ∙ ap (λ (l : ConnectedClient GroupPlace). l.session.identity.number) (same_Some connected' other is);
       keeps = turned conn_steps conn_step new.desk all_connected (Some connected') keeps had.holds is_conn_step leads.legal (has_connected conn_steps conn_step new connected' its had.holds leads up);
     }
 
 -- the session is handed in
-ends : (conn_steps : List ConnStep) (old new : Broker) (all_connected : Links) (number : ℕ) (input : Input) (next : Then) (connected : ConnectedClient GroupPlace) (marks : List (Mark Held))
+ends : (conn_steps : List ConnStep) (old new : Broker) (all_connected : Links) (number : ℕ) (input : Input) (next : Then) (connected : ConnectedClient GroupPlace) (marks : List (Mark Held)) (outcomes : List (Outcome GroupPlace))
     → SessionEnds Calls old connected marks new → next ≢ Go
-    → all_connected number ≡ Some connected → KeepsSessions conn_steps old.desk all_connected → AddsStep conn_steps all_connected number input next marks None new
-ends conn_steps old new all_connected number input next connected marks end stops has was =
+    → all_connected number ≡ Some connected → KeepsSessions conn_steps old.desk all_connected → AddsStep conn_steps all_connected number input next marks outcomes None new
+ends conn_steps old new all_connected number input next connected marks outcomes end stops has was =
     let had = was.has_connected number connected has in
     let n = connected.session.identity.number in
-    let conn_step : ConnStep = record { connection = number; input = input; next = next; session = n; place = None; marks = marks } in
+    let conn_step : ConnStep = record { connection = number; input = input; next = next; session = n; place = None; marks = marks; outcomes = outcomes } in
     let more : List ConnStep = conn_steps ++ conn_step ∷ [] in
     let leads = leads_there conn_steps conn_step (Down ∷ []) (after_down connected.session.window) end.marks_are (leads_down (transcript_of n conn_steps) connected.session.window had.leads) in
     let is_conn_step : IsStepOf (session_of (all_connected number)) conn_step None =
@@ -179,6 +183,7 @@ ends conn_steps old new all_connected number input next connected marks end stop
       next_is = refl;
       place_is = refl;
       marks_are = refl;
+      outcomes_are = refl;
       session = λ other is. ap (λ (l : ConnectedClient GroupPlace). l.session.identity.number) (same_Some connected other (sym has ∙ is));
       session_then = λ other is. absurd (cc);
       keeps = step_aside more end.behind new (with_connected all_connected number None) end.later behind;
@@ -212,16 +217,16 @@ vain conn_steps old new all_connected number asked free was =
     step_aside conn_steps back.1 new all_connected back.4 (returned conn_steps asked.mid back.1 all_connected number back.0 back.3 free got))
     asked.vain
 
-nothing : (conn_steps : List ConnStep) (old new : Broker) (all_connected : Links) (number : ℕ) (input : Input) (next : Then) (marks : List (Mark Held))
+nothing : (conn_steps : List ConnStep) (old new : Broker) (all_connected : Links) (number : ℕ) (input : Input) (next : Then) (marks : List (Mark Held)) (outcomes : List (Outcome GroupPlace))
     → (marks ≡ []) × (LeadsAside Calls old new ⊎ AsksInVain Calls old number new)
-    → all_connected number ≡ None → KeepsSessions conn_steps old.desk all_connected → AddsStep conn_steps all_connected number input next marks None new
-nothing conn_steps old new all_connected number input next marks none free was =
+    → all_connected number ≡ None → KeepsSessions conn_steps old.desk all_connected → AddsStep conn_steps all_connected number input next marks outcomes None new
+nothing conn_steps old new all_connected number input next marks outcomes none free was =
     let keeps : KeepsSessions conn_steps new.desk all_connected =
     ⊎_elim
     (λ (leads : LeadsAside Calls old new). step_aside conn_steps old new all_connected leads was)
     (λ (asked : AsksInVain Calls old number new). vain conn_steps old new all_connected number asked free was)
     none.1 in
-    let conn_step : ConnStep = record { connection = number; input = input; next = next; session = 0; place = None; marks = marks } in
+    let conn_step : ConnStep = record { connection = number; input = input; next = next; session = 0; place = None; marks = marks; outcomes = outcomes } in
     record {
       conn_step = conn_step;
       whose = refl;
@@ -229,15 +234,16 @@ nothing conn_steps old new all_connected number input next marks none free was =
       next_is = refl;
       place_is = refl;
       marks_are = refl;
+      outcomes_are = refl;
       session = λ other has. absurd (cc);
       session_then = λ other is. absurd (cc);
       keeps = subst (λ (l : Links). KeepsSessions (conn_steps ++ conn_step ∷ []) new.desk l) (sym (with_same all_connected number None free)) (quiet conn_steps conn_step new.desk all_connected none.0 free keeps);
     }
 
 pub adds_step : (before after : Option (ConnectedClient GroupPlace)) (conn_steps : List ConnStep) (old new : Broker) (all_connected : Links) (number : ℕ) (input : Input) (next : Then)
-    (marks : List (Mark Held)) → SessionSteps Calls old number before after marks new → GoesAs before after next → all_connected number ≡ before → KeepsSessions conn_steps old.desk all_connected
-    → AddsStep conn_steps all_connected number input next marks after new
-adds_step None None conn_steps old new all_connected number input next marks conn_steps_it goes has was = nothing conn_steps old new all_connected number input next marks conn_steps_it has was
-adds_step None (Some connected) conn_steps old new all_connected number input next marks conn_steps_it goes has was = begins conn_steps old new all_connected number input next connected marks conn_steps_it goes has was
-adds_step (Some connected) (Some connected') conn_steps old new all_connected number input next marks conn_steps_it goes has was = goes_on conn_steps old new all_connected number input next connected connected' marks conn_steps_it goes has was
-adds_step (Some connected) None conn_steps old new all_connected number input next marks conn_steps_it goes has was = ends conn_steps old new all_connected number input next connected marks conn_steps_it goes has was
+    (marks : List (Mark Held)) (outcomes : List (Outcome GroupPlace)) → SessionSteps Calls old number before after marks new → GoesAs before after next → all_connected number ≡ before → KeepsSessions conn_steps old.desk all_connected
+    → AddsStep conn_steps all_connected number input next marks outcomes after new
+adds_step None None conn_steps old new all_connected number input next marks outcomes conn_steps_it goes has was = nothing conn_steps old new all_connected number input next marks outcomes conn_steps_it has was
+adds_step None (Some connected) conn_steps old new all_connected number input next marks outcomes conn_steps_it goes has was = begins conn_steps old new all_connected number input next connected marks outcomes conn_steps_it goes has was
+adds_step (Some connected) (Some connected') conn_steps old new all_connected number input next marks outcomes conn_steps_it goes has was = goes_on conn_steps old new all_connected number input next connected connected' marks outcomes conn_steps_it goes has was
+adds_step (Some connected) None conn_steps old new all_connected number input next marks outcomes conn_steps_it goes has was = ends conn_steps old new all_connected number input next connected marks outcomes conn_steps_it goes has was

@@ -51,7 +51,7 @@ use Rattle.local_server.proofs.Owning.{AtDesk, InHand, Owns, owns_closed, owns_n
 use Rattle.local_server.proofs.Addressed as addressed
 use Rattle.local_server.proofs.Addressed.{at, answered, new_numbered}
 use Rattle.local_server.proofs.Happened.{joins, first_ok, then_ok, undergoes}
-use Rattle.local_server.proofs.HandOuts.{handed, plain}
+use Rattle.local_server.proofs.HandOuts.{handed}
 use Rattle.local_server.proofs.Quotas as quotas
 use Rattle.local_server.proofs.Quotas.{keeps_quota}
 use Rattle.local_server.proofs.Lent.{IsLentTo, one_holder}
@@ -132,15 +132,14 @@ shut first conn_steps all_connected old closed closes keeps =
     record {
       happenings = keeps.happenings ++ Closed ∷ [];
       led = joins keeps.happenings (Closed ∷ []) first old closed keeps.led (closed, closes, refl);
-      fresh =
-          keeps.fresh
-          ∙ ap (λ (all : List HandOut). map plain (map (λ (h : HandOut). h.1) all)) (sym (filter_map-append handed_by keeps.happenings (Closed ∷ []) ∙ append-nil (handed_by_all keeps.happenings)));
+      handed = keeps.handed ∙ ap (map (λ (h : HandOut). h.1)) (sym (filter_map-append handed_by keeps.happenings (Closed ∷ []) ∙ append-nil (handed_by_all keeps.happenings)));
       sessions = subst (λ (desk : Books Held GroupPlace). KeepsSessions conn_steps desk all_connected) (sym closes.desk) keeps.sessions;
       accepted = keeps.accepted;
       accepts = keeps.accepts;
       sent = keeps.sent;
       light = keeps.light;
       placed = keeps.placed;
+      sends = keeps.sends;
       at = keeps.at;
       owns = owns_closed (record { all_connected = all_connected; log = keeps.accepted }) old closed closes keeps.owns;
       settled = keeps.settled;
@@ -255,13 +254,14 @@ starts setup first new =
     record {
       happenings = [];
       led = refl;
-      fresh = refl;
+      handed = refl;
       sessions = new_sessions setup first new;
       accepted = [];
       accepts = refl;
       sent = λ envelope has. absurd (contains_nil envelope has);
       light = tt;
       placed = tt;
+      sends = tt;
       at = λ connection. ap place_of (sym (nobody setup first new connection));
       owns = owns_new (all_connected_at first.clients) setup.capacity setup.groups first.broker new.broker (nobody setup first new);
       settled = [];
@@ -303,8 +303,9 @@ account setup first conn_steps server new keeps within =
       stands = λ connection. stands conn_steps (connected_at server.clients connection) server.broker server.clients connection sessions within refl;
       parked = λ number row session has is. parked conn_steps server.broker all_connected number row session sessions has is;
       placed = keeps.placed;
+      sends = keeps.sends;
       at = keeps.at;
-      handed = handed setup.capacity setup.groups keeps.happenings first.broker server.broker _ new.broker keeps.led keeps.fresh;
+      handed = handed setup.capacity setup.groups keeps.happenings first.broker server.broker _ new.broker keeps.led keeps.handed;
     }
 
 told_in : (setup : Setup) (events : List TimedEvent) (said : List StepOutput) (first last : ServerState) → IsNewServer setup first → (run : HappensAll first events said last)

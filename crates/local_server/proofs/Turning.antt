@@ -14,10 +14,11 @@ use Rattle.conn_engine.specs.declared.phase.ConnectedClient.{ConnectedClient}
 use Rattle.conn_engine.specs.declared.phase.ConnPhase.{ConnPhase}
 use Rattle.conn_engine.specs.declared.phase.ConnPhase.TheVariants.{Unconnected, Waiting, Connected, Ended}
 use Rattle.conn_engine.specs.Step.{Steps}
-use Rattle.conn_laws.specs.Calls.{handed}
+use Rattle.conn_laws.specs.Calls.{handed, Outcome, hand_outs_of, sent_of, discards_of}
 use Rattle.conn_laws.specs.Marks.{publishes_of, fresh_of}
-use Rattle.conn_laws.specs.Transcripts.{connected_of, IsNotEnding, Transcribes, subscription_of}
-use Rattle.conn_laws.proofs.Transcripts.{transcribed}
+use Rattle.conn_laws.specs.Transcripts.{connected_of, IsNotEnding, subscription_of}
+use Rattle.conn_laws.proofs.HandingOut.{all_discarded}
+use Rattle.conn_laws.proofs.Transcripts.{discarded_by, TranscribesWith, transcribed_with}
 use Rattle.conn_laws.proofs.Aside.{all_of_both}
 use Rattle.conn_laws.specs.Sizes.{IsShort, IsLight}
 use Rattle.conn_laws.proofs.Sending.{kept_short}
@@ -34,12 +35,11 @@ use Rattle.local_broker.specs.Histories.{Happening, Called, HappensAll}
 use Rattle.local_server.specs.Happening.{slot_of}
 use Rattle.local_server.specs.ConnSteps.{ConnStep, AllTell, conn_steps_of}
 use Rattle.local_server.specs.Streams.{ReadsFrom, PieceIsAnswered, TickIsAnswered}
-use Rattle.local_server.specs.Transcripts.{all_fresh, connected_in, place_of, last_place, IsAt, SendsItsOwn}
+use Rattle.local_server.specs.Transcripts.{all_handed, handed_in_step, connected_in, place_of, last_place, plain, IsAt, IsHandedItsOwn, SendsWhatItWasHanded}
 use Rattle.local_server.proofs.Happened.{joins, called, handed_by_calls}
 use Rattle.local_server.specs.Messages.{Accepted, IsBrought, AllAccept, sent_in, all_sent}
 use Rattle.local_server.specs.Settling.{Settlement, AllSettle}
-use Rattle.local_server.proofs.HandOuts.{plain}
-use Rattle.local_server.proofs.ConnSteps.{more_fresh, told_on}
+use Rattle.local_server.proofs.ConnSteps.{more_handed, told_on}
 use Rattle.local_server.proofs.Settled.{AddsIn, adds_then}
 use Rattle.local_server.proofs.Owning.{InHand, Owns}
 use Rattle.local_server.proofs.Acted.{acts}
@@ -47,7 +47,7 @@ use Rattle.local_server.specs.Sizes.{AllShort}
 use Rattle.local_server.proofs.Light.{IsSpelled, AllLight, brought_light, known_light, marks_short, packets_short}
 use Rattle.local_server.proofs.Known.{Log, IsKnown, stays_known}
 use Rattle.local_server.proofs.Accepted.{accept_on, more_sent}
-use Rattle.local_server.proofs.Placed.{sends_own, leads_to}
+use Rattle.local_server.proofs.Placed.{handed_own, leads_to}
 use Rattle.local_server.proofs.SentAsAccepted.{sends}
 use Rattle.local_server.proofs.Acknowledged.{settled_on, settle_on}
 use Rattle.local_server.proofs.Confirmed.{conn_step_hears}
@@ -59,32 +59,25 @@ use Rattle.local_server.proofs.Reading.{IsStep, EndsSteps, IsUnfaulted, left_to,
 abbrev messages : List Happening → List Held
 messages happenings = map (λ (h : HandOut). h.1) (handed_by_all happenings)
 
--- the messages that were handed out, under whatever Subscription Identifier they are sent
+-- messages, under whatever Subscription Identifier they are sent
 same_plain : (subscription : Option ℕ) (all : List HandOut) → map plain (map (λ (h : HandOut). under subscription h.1) all) ≡ map plain (map (λ (h : HandOut). h.1) all)
 same_plain subscription [] = refl
 same_plain subscription (hand_out ∷ others) = ap (λ (rest : List Held). plain hand_out.1 ∷ rest) (same_plain subscription others)
 
-at_under : (place : Option GroupPlace) (subscription : Option ℕ) (all : List HandOut) → AllByRecursion (IsAt place) (map (λ (h : HandOut). h.1) all)
-    → AllByRecursion (IsAt place) (map (λ (h : HandOut). under subscription h.1) all)
-at_under place subscription [] at = tt
-at_under None subscription (hand_out ∷ others) at = absurd at.0
-at_under (Some place) subscription (hand_out ∷ others) at = (at.0, at_under (Some place) subscription others at.1)
-
--- these steps led a broker from the first to this one, what they send for the first time is what its calls handed out, whatever the
--- Subscription Identifier, and what they
--- acknowledge was settled in its groups
+-- these steps led a broker from the first to this one, what they are handed is what its calls handed out, and what they acknowledge and discard was settled in its groups
 pub record Keeps (first : Broker) (conn_steps : List ConnStep) (all_connected : Links) (b : Broker) : Type 0 where
   pub happenings : List Happening
   pub led : HappensAll first happenings b
-  pub fresh : map plain (all_fresh conn_steps) ≡ map plain (messages happenings)
+  pub handed : all_handed conn_steps ≡ messages happenings
   pub sessions : KeepsSessions conn_steps b.desk all_connected
   -- what was accepted, and that it is what was sent
   pub accepted : Log
   pub accepts : AllAccept conn_steps accepted
   pub sent : (envelope : Held) → Contains (all_sent conn_steps) envelope → IsKnown accepted envelope
   pub light : AllLight accepted
-  -- what is sent for the first time, the place of its session was handed
-  pub placed : AllByRecursion SendsItsOwn conn_steps
+  -- what a step is handed, the place of its session was handed, and it is sent, or discarded
+  pub placed : AllByRecursion IsHandedItsOwn conn_steps
+  pub sends : AllByRecursion SendsWhatItWasHanded conn_steps
   pub at : (connection : ℕ) → last_place (conn_steps_of connection conn_steps) ≡ place_of (all_connected connection)
   pub owns : Owns (record { all_connected = all_connected; log = accepted }) b
   pub settled : List Settlement
@@ -143,21 +136,22 @@ handed_on happenings supply_calls =
     ∙ ap (λ (l : List HandOut). messages happenings ++ map (λ (h : HandOut). h.1) l) (handed_by_calls supply_calls)
 
 stepped : (first : Broker) (conn_steps : List ConnStep) (all_connected : Links) (old new : Broker) (number : ℕ) (phase phase' : ConnPhase GroupPlace) (input : Input) (said : StepOutput)
-    (now : ℕ) → said.connection ≡ number → IsSpelled input → Steps Calls slot_of old number phase now input said.packets said.next phase' new
-    → Transcribes Calls old number phase input said.packets said.next phase' new
+    (now : ℕ) → said.connection ≡ number → IsSpelled input → (steps : Steps Calls slot_of old number phase now input said.packets said.next phase' new)
+    → TranscribesWith Calls (discarded_by Calls slot_of steps.between steps.mid new steps.sent phase' steps.hands) steps.mid old number phase input said.packets said.next phase' new
     → Keeps first conn_steps (with_connected all_connected number (connected_of phase)) old
     → Says first conn_steps (said ∷ []) (IsStep number input said.next) (with_connected all_connected number (connected_of phase')) new
-stepped first conn_steps all_connected old new number phase phase' input said now its spelled steps step keeps =
+stepped first conn_steps all_connected old new number phase phase' input said now its spelled steps both keeps =
+    let step = both.step in
     let acts = acts (record { all_connected = all_connected; log = keeps.accepted }) old new number now phase phase' input said.packets said.next steps keeps.owns in
     let goes = goes_as old new number now phase phase' input said.packets said.next steps in
     let adds =
-    adds_step (connected_of phase) (connected_of phase') conn_steps old new (with_connected all_connected number (connected_of phase)) number input said.next step.marks step.session goes
+    adds_step (connected_of phase) (connected_of phase') conn_steps old new (with_connected all_connected number (connected_of phase)) number input said.next step.marks step.outcomes step.session goes
     (connected_here all_connected number (connected_of phase)) keeps.sessions in
     let here : with_connected all_connected number (connected_of phase) number ≡ connected_of phase = connected_here all_connected number (connected_of phase) in
     let leads = λ (connected : ConnectedClient GroupPlace) (has : connected_of phase ≡ Some connected). (keeps.sessions.has_connected number connected (here ∙ has)).leads in
     let session = λ (connected : ConnectedClient GroupPlace) (has : connected_of phase ≡ Some connected). adds.session connected (here ∙ has) in
     let settles =
-    settled_on conn_steps adds.conn_step old new number phase phase' input said.packets said.next step adds.marks_are leads session acts.settled acts.adds acts.tells in
+    settled_on conn_steps adds.conn_step old steps.mid new number phase phase' input said.next step.marks step.session both.replies adds.marks_are leads session acts.settled acts.adds acts.tells in
     let hears =
     conn_step_hears old new number now phase phase' said.packets said.next input conn_steps adds.conn_step step steps adds.input_is adds.next_is adds.marks_are goes leads session
     (λ connected has. keeps.owns.owned (InHand number) connected.session (record { connected = connected; has = here ∙ has; its = refl })) in
@@ -178,10 +172,16 @@ stepped first conn_steps all_connected old new number phase phase' input said no
       leads = (now_keeps.has_connected number connected (there ∙ has)).leads;
       known = acts.owns.known (InHand number) connected.session (record { connected = connected; has = there ∙ has; its = refl });
     }) in
-    let own : SendsItsOwn adds.conn_step =
-    subst (λ (place : Option GroupPlace). AllByRecursion (IsAt place) (fresh_of adds.conn_step.marks)) (sym adds.place_is)
-    (subst (AllByRecursion (IsAt (place_of (connected_of phase')))) (step.hands ∙ ap fresh_of (sym adds.marks_are))
-    (at_under (place_of (connected_of phase')) (subscription_of (connected_of phase')) (handed step.supply_calls) (sends_own step.supply_calls old new (connected_of phase') keeps.owns.running step.made step.own))) in
+    let outcomes = adds.outcomes_are in
+    let own : IsHandedItsOwn adds.conn_step =
+    subst (λ (place : Option GroupPlace). AllByRecursion (IsAt place) (handed_in_step adds.conn_step)) (sym adds.place_is)
+    (subst (λ (l : List (Outcome GroupPlace)). AllByRecursion (IsAt (place_of (connected_of phase'))) (map (λ (h : HandOut). h.1) (hand_outs_of l))) (sym outcomes)
+    (handed_own step.supply_calls (hand_outs_of step.outcomes) old new (connected_of phase') keeps.owns.running step.made step.handed_out step.own)) in
+    let sends : SendsWhatItWasHanded adds.conn_step =
+    ap (λ marks. map plain (fresh_of marks)) adds.marks_are ∙ ap (map plain) (sym step.hands) ∙ same_plain (subscription_of (connected_of phase')) (sent_of step.outcomes)
+    ∙ ap (λ (l : List (Outcome GroupPlace)). map plain (map (λ (h : HandOut). h.1) (sent_of l))) (sym outcomes) in
+    let discards : all_discarded (discarded_by Calls slot_of steps.between steps.mid new steps.sent phase' steps.hands) ≡ discards_of adds.conn_step.outcomes =
+    sym both.discards ∙ ap discards_of (sym outcomes) in
     let light = all_of_both (λ (a : Accepted). IsLight a.message) keeps.accepted acts.accepted keeps.light (brought_light acts.accepted number input spelled acts.brought.each) in
     let publishes = marks_short adds.conn_step.marks (λ envelope has. known_light (keeps.accepted ++ acts.accepted) envelope light (sends_known envelope has)) in
     record {
@@ -197,15 +197,10 @@ stepped first conn_steps all_connected old new number phase phase' input said no
       keeps = record {
         happenings = keeps.happenings ++ map Called step.supply_calls;
         led = joins keeps.happenings (map Called step.supply_calls) first old new keeps.led (called step.supply_calls old new step.made);
-        fresh =
-            ap (map plain) (more_fresh conn_steps adds.conn_step)
-            ∙ map-append plain (all_fresh conn_steps) (fresh_of adds.conn_step.marks)
-            ∙ (λ i.
-            keeps.fresh i
-            ++ (ap (λ marks. map plain (fresh_of marks)) adds.marks_are ∙ ap (map plain) (sym step.hands)
-            ∙ same_plain (subscription_of (connected_of phase')) (handed step.supply_calls)) i)
-            ∙ sym (map-append plain (messages keeps.happenings) (map (λ (h : HandOut). h.1) (handed step.supply_calls)))
-            ∙ ap (map plain) (sym (handed_on keeps.happenings step.supply_calls));
+        handed =
+            more_handed conn_steps adds.conn_step
+            ∙ (λ i. keeps.handed i ++ (ap (λ (l : List (Outcome GroupPlace)). map (λ (h : HandOut). h.1) (hand_outs_of l)) outcomes ∙ ap (map (λ (h : HandOut). h.1)) (sym step.handed_out)) i)
+            ∙ sym (handed_on keeps.happenings step.supply_calls);
         sessions = now_keeps;
         accepted = keeps.accepted ++ acts.accepted;
         accepts =
@@ -219,13 +214,17 @@ stepped first conn_steps all_connected old new number phase phase' input said no
             (Contains-append_cases (all_sent conn_steps) (filter_map sent_in adds.conn_step.marks) envelope
             (subst (λ (l : List Held). Contains l envelope) (more_sent conn_steps adds.conn_step) has));
         light = light;
-        placed = all_of_both SendsItsOwn conn_steps (adds.conn_step ∷ []) keeps.placed (own, tt);
+        placed = all_of_both IsHandedItsOwn conn_steps (adds.conn_step ∷ []) keeps.placed (own, tt);
+        sends = all_of_both SendsWhatItWasHanded conn_steps (adds.conn_step ∷ []) keeps.sends (sends, tt);
         at = subst (λ (l : Links). (connection : ℕ) → last_place (conn_steps_of connection (conn_steps ++ adds.conn_step ∷ [])) ≡ place_of (l connection)) again
             (leads_to conn_steps adds.conn_step (with_connected all_connected number (connected_of phase)) number (connected_of phase') adds.whose adds.place_is keeps.at);
         owns = acts.owns;
-        settled = keeps.settled ++ settles.now;
+        settled = keeps.settled ++ (settles.now ++ discards_of adds.conn_step.outcomes);
         acknowledged = settle_on [] conn_steps adds.conn_step keeps.settled settles.now keeps.acknowledged (hears, settles.are);
-        adds = adds_then keeps.settled settles.now first.groups old.groups new.groups keeps.adds settles.adds;
+        adds =
+            adds_then keeps.settled (settles.now ++ discards_of adds.conn_step.outcomes) first.groups old.groups new.groups keeps.adds
+            (adds_then settles.now (discards_of adds.conn_step.outcomes) old.groups steps.mid.groups new.groups settles.adds
+            (subst (λ (l : List Settlement). AddsIn steps.mid.groups l new.groups) discards acts.discards));
       };
     }
 
@@ -237,7 +236,7 @@ moves first conn_steps all_connected old new number client after now input said 
     let steps = subst (λ (n : ℕ). Steps Calls slot_of old n client.conn.phase (moment_of client now) input said.packets said.next after.conn.phase new) is moved.stepped in
     let sound = not_ending client.conn.phase (λ connected has. (keeps.sessions.has_connected number connected (connected_here all_connected number (connected_of client.conn.phase) ∙ has)).leads.goes_on) in
     stepped first conn_steps all_connected old new number client.conn.phase after.conn.phase input said (moment_of client now) (moved.told ∙ is) spelled steps
-    (transcribed Calls slot_of old new number (moment_of client now) client.conn.phase after.conn.phase input said.packets said.next steps sound) keeps
+    (transcribed_with Calls slot_of old new number (moment_of client now) client.conn.phase after.conn.phase input said.packets said.next steps sound) keeps
 
 -- what stands in front of a stream was read
 front_spelled : (input : Input) (unread unread' : Unread) → IsInFront unread input unread' → IsSpelled input

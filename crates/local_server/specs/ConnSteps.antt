@@ -5,11 +5,12 @@ use Rattle.group_jobs.specs.Stamps.{Held}
 use Rattle.member_window.specs.Marks.{Mark}
 use Rattle.conn_supply.specs.declared.reply.Then.{Then}
 use Rattle.conn_engine.specs.declared.input.Input.{Input}
+use Rattle.conn_laws.specs.Calls.{Outcome}
 use Rattle.conn_laws.specs.Marks.{publishes_in, publishes_of}
 use Rattle.client_table.specs.Clients.{StepOutput}
 use Rattle.local_broker.specs.Places.{GroupPlace}
 
--- one step of a connection: what came, whether the connection went on, and what was added to the transcript of its session
+-- one step of a connection: what came, whether the connection went on, what was handed out, and what was added to the transcript of its session
 pub record ConnStep : Type 0 where
   pub connection : ℕ
   pub input : Input
@@ -19,6 +20,8 @@ pub record ConnStep : Type 0 where
   -- the place at which its session is handed messages after the step, if it is a member
   pub place : Option GroupPlace
   pub marks : List (Mark Held)
+  -- what was handed out in it, and whether that was sent, or discarded
+  pub outcomes : List (Outcome GroupPlace)
 
 -- a step wrote these PUBLISH packets and no others, and so the connection went on or not
 pub record Tells (said : StepOutput) (conn_step : ConnStep) : Type 0 where

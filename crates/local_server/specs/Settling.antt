@@ -21,6 +21,7 @@ use Rattle.conn_supply.specs.declared.reply.Then.TheVariants.{Go}
 use Rattle.conn_engine.specs.declared.input.Input.{Input}
 use Rattle.conn_engine.specs.declared.input.Input.TheVariants as inputs
 use Rattle.conn_engine.specs.declared.phase.ConnectedClient.{ConnectedClient}
+use Rattle.conn_laws.specs.Calls.{discards_of}
 use Rattle.conn_laws.specs.Marks.{acknowledged_of}
 use Rattle.client_table.specs.Clients.{StepOutput}
 use Rattle.local_broker.specs.Places.{GroupPlace}
@@ -73,13 +74,13 @@ pub record AcknowledgesWhatCame (conn_step : ConnStep) (entries : List (ℕ × H
   pub goes_on : conn_step.next ≡ Go → acknowledged_of conn_step.marks ≡ confirmed_by entries conn_step.input
   pub ends : conn_step.next ≢ Go → acknowledged_of conn_step.marks ≡ []
 
--- what each of these steps acknowledges and settles, after those before, in their order
+-- what each of these steps acknowledges and settles, after those before, in their order; and after that what it discards
 abbrev pub AllSettle : List ConnStep → List ConnStep → List Settlement → Type 0
 AllSettle before [] settled = settled ≡ []
 AllSettle before (conn_step ∷ conn_steps) settled =
     let entries = held [] (transcript_of conn_step.session before) in
     (now later : List Settlement) × AcknowledgesWhatCame conn_step entries × AreSettled entries (acknowledged_of conn_step.marks) now
-    × AllSettle (before ++ conn_step ∷ []) conn_steps later × (settled ≡ now ++ later)
+    × AllSettle (before ++ conn_step ∷ []) conn_steps later × (settled ≡ (now ++ discards_of conn_step.outcomes) ++ later)
 
 -- these messages are out at a place: it was handed each, and has neither settled it nor given it back
 abbrev pub AreOut : Broker → GroupPlace → List (ℕ × Held) → Type 0
@@ -101,7 +102,7 @@ pub record SettlesWhatIsAcknowledged (first : ServerState) (events : List TimedE
   -- the transcripts of the sessions, over the steps of their connections
   pub transcripts : KeepsTranscripts first events said last run
   -- what the steps acknowledge, in their order: the PUBACKs that came for what their sessions held, each for the message under its identifier, with
-  -- the fate of its Reason Code
+  -- the fate of its Reason Code; and what each of them discards of what it was handed
   pub settled : List Settlement
   pub acknowledged : AllSettle [] transcripts.conn_steps settled
   -- and the events of each group that end a hand-out by a fate are those, in that order

@@ -1,8 +1,8 @@
 -- The transcripts of the sessions of a server, along a whole run (sections 4.4 and 4.9).
-use Rattle.std.specs.Prelude.{◌≡◌, ◌≢◌, ℕ, nat_eq, if◌then◌else◌, List, [], ◌∷◌, ◌++◌, filter_map, Option, Some, None, slice_get, ⊤}
+use Rattle.std.specs.Prelude.{◌≡◌, ◌≢◌, ℕ, nat_eq, if◌then◌else◌, List, [], ◌∷◌, ◌++◌, map, filter_map, Option, Some, None, slice_get, ⊤}
 use Rattle.std.specs.List.{AllByRecursion, flat_map}
 use Rattle.dispatch_core.specs.declared.event.Job.{Job}
-use Rattle.group_jobs.specs.Stamps.{Held, job_of}
+use Rattle.group_jobs.specs.Stamps.{Held, job_of, under}
 use Rattle.local_group.specs.Groups.{Group}
 use Rattle.member_window.specs.Marks.{Mark, Up, Sent, Acked, Down, window_down, window_after_all}
 use Rattle.member_window.specs.Transcript.{IsLegal}
@@ -16,6 +16,7 @@ use Rattle.session_desk.specs.Rows.{HasRow}
 use Rattle.conn_supply.specs.declared.reply.Then.TheVariants.{Go}
 use Rattle.conn_engine.specs.declared.phase.ConnectedClient.{ConnectedClient}
 use Rattle.conn_laws.specs.Quotas.{quota_of, KeepsQuota}
+use Rattle.conn_laws.specs.Calls.{hand_outs_of, sent_of}
 use Rattle.conn_laws.specs.Marks.{fresh_of, IsWithin}
 use Rattle.conn_laws.specs.Transcripts.{connected_of}
 use Rattle.client_table.specs.Clients.{ClientState, StepOutput}
@@ -90,9 +91,21 @@ abbrev pub IsAt : Option GroupPlace → Held → Type 0
 IsAt None envelope = ⊥
 IsAt (Some place) envelope = (envelope.stamp.group ≡ place.slot) × (envelope.place ≡ place.number)
 
--- a step sends for the first time what the place of its session was handed, and nothing else
-abbrev pub SendsItsOwn : ConnStep → Type 0
-SendsItsOwn conn_step = AllByRecursion (IsAt conn_step.place) (fresh_of conn_step.marks)
+-- what is handed out in a step
+abbrev pub handed_in_step : ConnStep → List Held
+handed_in_step conn_step = map (λ (h : GroupPlace × Held). h.1) (hand_outs_of conn_step.outcomes)
+
+-- that is what the place of its session was handed, and nothing else
+abbrev pub IsHandedItsOwn : ConnStep → Type 0
+IsHandedItsOwn conn_step = AllByRecursion (IsAt conn_step.place) (handed_in_step conn_step)
+
+-- a message without its Subscription Identifier
+abbrev pub plain : Held → Held
+plain envelope = under None envelope
+
+-- a step sends for the first time what it was handed, in that order, but for what is discarded of it
+abbrev pub SendsWhatItWasHanded : ConnStep → Type 0
+SendsWhatItWasHanded conn_step = map plain (fresh_of conn_step.marks) ≡ map plain (map (λ (h : GroupPlace × Held). h.1) (sent_of conn_step.outcomes))
 
 -- the session of a connection stands where its transcript leads: what is held, what is owed, and the quota, which is that of the CONNECT, and no
 -- more is owed
@@ -102,13 +115,13 @@ StandsAsTold conn_steps (Some connected) =
     (window_after_all (window_down []) (transcript_of connected.session.identity.number conn_steps) ≡ window_state connected.session.window)
     × KeepsQuota (quota_of connected.terms) connected.session.window
 
--- a message that is sent for the first time, as the group of this slot sees it: the place, and the job
+-- a message that is handed out, as the group of this slot sees it: the place, and the job
 abbrev pub seen_by : ℕ → Held → Option (ℕ × Job)
 seen_by slot envelope = if nat_eq envelope.stamp.group slot then Some (envelope.place, job_of envelope.stamp) else None
 
--- what all steps send for the first time, in their order
-abbrev pub all_fresh : List ConnStep → List Held
-all_fresh conn_steps = flat_map (λ conn_step. fresh_of conn_step.marks) conn_steps
+-- what all steps are handed, in their order
+abbrev pub all_handed : List ConnStep → List Held
+all_handed conn_steps = flat_map handed_in_step conn_steps
 
 -- what holds at a moment of a run: these steps led the server to where it is
 pub record AccountFor (conn_steps : List ConnStep) (server : ServerState) : Type 0 where
@@ -125,12 +138,14 @@ pub record AccountFor (conn_steps : List ConnStep) (server : ServerState) : Type
   pub parked : (number : ℕ) (row : Row Held GroupPlace) (session : Session Held GroupPlace) → HasRow server.broker.desk.rows number row
       → row.held_by ≡ Parked session
       → window_after_all (window_down []) (transcript_of session.identity.number conn_steps) ≡ window_state session.window
-  -- each step sends for the first time only what its session's place was handed; and that place is what the session has, until its next step
-  pub placed : AllByRecursion SendsItsOwn conn_steps
+  -- each step is handed only what its session's place was handed, and sends that for the first time, but for what it discards; and that place is what the session has,
+  -- until its next step
+  pub placed : AllByRecursion IsHandedItsOwn conn_steps
+  pub sends : AllByRecursion SendsWhatItWasHanded conn_steps
   pub at : (connection : ℕ) → last_place (conn_steps_of connection conn_steps) ≡ place_of (connected_at server.clients connection)
-  -- the hand-outs among a group's events, first and later ones, are what is sent for the first time, in that order
+  -- the hand-outs among a group's events, first and later ones, are what the steps are handed, in that order
   pub handed : (slot : ℕ) (group : Group) → slice_get server.broker.groups slot ≡ Some group
-      → handed_in_all group.events ≡ filter_map (seen_by slot) (all_fresh conn_steps)
+      → handed_in_all group.events ≡ filter_map (seen_by slot) (all_handed conn_steps)
 
 -- what holds of the transcripts of a run
 pub record KeepsTranscripts (first : ServerState) (events : List TimedEvent) (said : List StepOutput) (last : ServerState) (run : HappensAll first events said last) : Type 0 where

@@ -13,14 +13,14 @@ use Rattle.conn_rules.specs.declared.terms.Terms.{Terms}
 use Rattle.conn_supply.specs.Memberships.{with_window, with_membership as having}
 use Rattle.conn_supply.specs.HandOuts.{SendsAgain, HandsFresh, HandsOut, LeavesWith}
 use Rattle.conn_engine.specs.declared.phase.ConnectedClient.{ConnectedClient}
-use Rattle.conn_engine.specs.Step.{after_hand_out}
+use Rattle.conn_engine.specs.Step.{after_hand_out, hand_out_terms}
 use Rattle.local_broker.specs.Places.{GroupPlace}
 use Rattle.local_broker.specs.Broker.{Broker}
 use Rattle.local_broker.specs.Calls.{Calls}
 use Rattle.solo_output.specs.Groups.{SoloState, Phase, unacknowledged, with_membership}
 use Rattle.solo_output.specs.HandOuts.{SoloStep, due, hand_out, sends_nothing, left_with, deliver_to, deliver_in, deliver}
 use Rattle.solo_output.proofs.Brokers.{entries_at, entries_none}
-use Rattle.solo_output.proofs.Hands.{first_place, sends_fresh}
+use Rattle.solo_output.proofs.Hands.{first_place, plainly, sends_fresh}
 use Rattle.solo_output.proofs.Desks.{ShowsDesk, takes}
 use Rattle.solo_output.proofs.Sessions.{placed, Idles, IsLentAs, ShowsClient, hand_out_keeps, broker_as, window_as, broker_moved}
 
@@ -98,7 +98,7 @@ module _ (solo : SoloState) (connected : ConnectedClient GroupPlace) (old : Brok
       (as_it_is [] membership window new refl (does.1 ∙ sym (shows.session.member ∙ ap placed is)) kept does.2)
 
   hands : (own : Membership ℕ) → solo.membership ≡ own → (fresh : List Packet) (membership : Membership GroupPlace) (window : Contents Held) (new : Broker)
-      → HandsFresh Calls solo.subscription old (placed own) connected.session.window fresh membership window new → Delivered (deliver_to own solo) connected fresh membership window new
+      → HandsFresh Calls (plainly solo.subscription) old (placed own) connected.session.window fresh membership window new → Delivered (deliver_to own solo) connected fresh membership window new
   hands NotMember is fresh membership window new does = as_it_is fresh membership window new does.0 (does.1 ∙ sym (shows.session.member ∙ ap placed is)) does.2 does.3
   hands (Member slot) is fresh membership window new (place', as_, does) =
       let got = sends_fresh fresh slot solo is connected.session.window old shows.session.broker shows.session.window place' window new does in
@@ -126,14 +126,14 @@ module _ (solo : SoloState) (connected : ConnectedClient GroupPlace) (old : Brok
   hands (Leaving slot) is fresh membership window new does =
       subst (λ (l : List Packet). Delivered (deliver_to (Leaving slot) solo) connected l membership window new) (sym does.0) (leaves slot is membership window new does.1 does.2)
 
-  pub delivers : (sent : List Packet) (membership : Membership GroupPlace) (window : Contents Held) (new : Broker) → HandsOut Calls connected.session.subscription old connected.session.membership connected.session.window sent membership window new
+  pub delivers : (sent : List Packet) (membership : Membership GroupPlace) (window : Contents Held) (new : Broker) → HandsOut Calls (hand_out_terms connected) old connected.session.membership connected.session.window sent membership window new
       → Delivered (deliver solo) connected sent membership window new
   delivers sent membership window new does =
       let again = none_again does.again connected.session.window does.between shows.session.window.none_waits does.sent_again in
       let all_fresh : sent ≡ does.fresh = does.both ∙ ap (λ (l : List Packet). l ++ does.fresh) again.0 in
-      let its = subst (λ (w : Contents Held). HandsFresh Calls connected.session.subscription old connected.session.membership w does.fresh membership window new) again.1 does.sent_fresh in
-      let under = subst (λ (s : Option ℕ). HandsFresh Calls s old connected.session.membership connected.session.window does.fresh membership window new) shows.session.subscribed its in
-      let own = subst (λ (m : Membership GroupPlace). HandsFresh Calls solo.subscription old m connected.session.window does.fresh membership window new) shows.session.member under in
+      let its = subst (λ (w : Contents Held). HandsFresh Calls (hand_out_terms connected) old connected.session.membership w does.fresh membership window new) again.1 does.sent_fresh in
+      let under = subst (λ (s : Option ℕ). HandsFresh Calls (plainly s) old connected.session.membership connected.session.window does.fresh membership window new) shows.session.subscribed its in
+      let own = subst (λ (m : Membership GroupPlace). HandsFresh Calls (plainly solo.subscription) old m connected.session.window does.fresh membership window new) shows.session.member under in
       let got = hands solo.membership refl does.fresh membership window new own in
       subst (λ (p : Phase). Delivered (deliver_in p solo) connected sent membership window new) (sym shows.phase)
       (subst (λ (l : List Packet). Delivered (deliver_to solo.membership solo) connected l membership window new) (sym all_fresh) got)

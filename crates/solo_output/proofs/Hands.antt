@@ -10,9 +10,10 @@ use Rattle.member_window.specs.Identifiers.{identifiers, IsLeastFree}
 use Rattle.member_window.specs.Contents.{Contents, held_of, HasRoom, after_put}
 use Rattle.session_desk.specs.declared.session.Membership.{Membership}
 use Rattle.session_desk.specs.declared.session.Membership.TheVariants.{Member}
+use Rattle.conn_rules.specs.declared.hand_outs.HandOutTerms.{HandOutTerms}
 use Rattle.conn_rules.specs.Packets.{job}
 use Rattle.conn_supply.specs.SupplyCalls.SupplyCall.{Take, TakeBack}
-use Rattle.conn_supply.specs.HandOuts.{AsksFor, SendsOne, SendsNone, SendsFresh}
+use Rattle.conn_supply.specs.HandOuts.{AsksFor, Discards, Finds, LooksFor, SendsOne, SendsNone, SendsFresh}
 use Rattle.local_broker.specs.Places.{GroupPlace}
 use Rattle.local_broker.specs.Broker.{Broker}
 use Rattle.local_broker.specs.Calls.{Calls}
@@ -45,6 +46,27 @@ pub record Delivers (solo_step : SoloStep) (slot : ℕ) (old : Broker) (packets 
 take_nil : {A : Type 0} (n : ℕ) → ◌≡◌ {A = List A} (take n []) []
 take_nil zero = refl
 take_nil (suc n) = refl
+
+-- what a client is sent its messages under, where this is its Subscription Identifier, if any
+abbrev pub plainly : Option ℕ → HandOutTerms
+plainly subscription = record { subscription = subscription; maximum_packet_size = None }
+
+-- under these terms nothing is discarded
+none_discarded : (subscription : Option ℕ) (envelopes : List Held) (old new : Broker) (place place' : GroupPlace) → Discards Calls (plainly subscription) old place envelopes place' new
+    → (place' ≡ place) × (new ≡ old) × (envelopes ≡ [])
+none_discarded subscription [] old new place place' does = (does.0, does.1, refl)
+none_discarded subscription (envelope ∷ envelopes) old new place place' does = let never = does.2.unfit in absurd (cc)
+
+looked_for : (subscription : Option ℕ) (found : Option Held) (old new : Broker) (place place' : GroupPlace) → LooksFor Calls (plainly subscription) old place found place' new
+    → Finds Calls (plainly subscription) old place found place' new
+looked_for subscription found old new place place' looks =
+    let none = none_discarded subscription looks.discarded old looks.mid place looks.between looks.passed in
+    ⊎_elim
+    (λ few.
+    subst (λ (p : GroupPlace). Finds Calls (plainly subscription) old p found place' new) none.0
+    (subst (λ (b : Broker). Finds Calls (plainly subscription) b looks.between found place' new) none.1 few.1))
+    (λ most. absurd (let many = most.0 in let nothing = ap length none.2 in omega (arith, many, nothing)))
+    looks.ended
 
 -- nothing was given back
 pub asked_back : (solo : SoloState) (entries : List (ℕ × Held)) (slot : ℕ) (old mid : Broker) (between : GroupPlace) → ShowsBroker solo entries old
@@ -125,11 +147,10 @@ module _ (slot : ℕ) (solo : SoloState) (member : solo.membership ≡ Member sl
         call.2.desk ∙ back.2.desk,
       )
 
-  sends_none : (new : Broker) (window' : Contents Held) (place' : GroupPlace) → SendsNone Calls old (first_place slot) window place' window' new
+  found_none : (new : Broker) (window' : Contents Held) (place' : GroupPlace) → window' ≡ window → Finds Calls (plainly solo.subscription) old (first_place slot) None place' new
       → Delivers (hand_out slot (due slot solo) solo) slot old [] place' window' new
-  sends_none new window' place' (kept, inl full) = no_more (full_due full.0) new full.2 window' kept place' full.1
-  sends_none new window' place' (kept, inr (inl (room, allowed, inl found))) = absurd (none-some found.0 found.1)
-  sends_none new window' place' (kept, inr (inl (room, allowed, inr asked))) =
+  found_none new window' place' kept (inl (allowed, inl found)) = absurd (none-some found.0 found.1)
+  found_none new window' place' kept (inl (allowed, inr asked)) =
       let none = none_due (none_left asked.1 new asked.0 place' asked.2 asked.3) in
       let after = stays asked.1 new asked.0 place' asked.2 asked.3 in
       subst (λ (messages : List Message). Delivers (hand_out slot messages solo) slot old [] place' window' new) (sym none)
@@ -140,7 +161,12 @@ module _ (slot : ℕ) (solo : SoloState) (member : solo.membership ≡ Member sl
         place = after.1;
         desk = after.2;
       })
-  sends_none new window' place' (kept, inr (inr stop)) = let answer = stop.3.0 in absurd (cc)
+  found_none new window' place' kept (inr stop) = let answer = stop.2.0 in absurd (cc)
+
+  sends_none : (new : Broker) (window' : Contents Held) (place' : GroupPlace) → SendsNone Calls (plainly solo.subscription) old (first_place slot) window place' window' new
+      → Delivers (hand_out slot (due slot solo) solo) slot old [] place' window' new
+  sends_none new window' place' (kept, inl full) = no_more (full_due full.0) new full.2 window' kept place' full.1
+  sends_none new window' place' (kept, inr none) = found_none new window' place' kept (looked_for solo.subscription None old new (first_place slot) place' none.1)
 
   -- one message goes out
   abbrev next : ℕ
@@ -190,7 +216,7 @@ module _ (slot : ℕ) (solo : SoloState) (member : solo.membership ≡ Member sl
         call.2.desk ∙ back.2.desk,
       )
 
-  pub sends_one : (packet : Packet) (mid : Broker) (window' : Contents Held) (place' : GroupPlace) → SendsOne Calls solo.subscription old (first_place slot) window packet place' window' mid
+  pub sends_one : (packet : Packet) (mid : Broker) (window' : Contents Held) (place' : GroupPlace) → SendsOne Calls (plainly solo.subscription) old (first_place slot) window packet place' window' mid
       → ((message : Message) × (due slot solo ≡ message ∷ due slot behind) × (packet ≡ job false message solo.subscription next)
       × ShowsBroker behind window'.owed mid × ShowsWindow behind window' × (place' ≡ first_place slot) × (mid.desk ≡ old.desk))
   sends_one packet mid window' place' does =
@@ -199,7 +225,8 @@ module _ (slot : ℕ) (solo : SoloState) (member : solo.membership ≡ Member sl
       let free : IsLeastFree (unacknowledged solo) does.identifier = subst (λ (l : List ℕ). IsLeastFree l does.identifier) used does.free in
       let is_next : does.identifier ≡ next = sym (least_is (unacknowledged solo) does.identifier free) in
       let put : window' ≡ after_put window next (under solo.subscription does.envelope) = does.put ∙ ap (λ (n : ℕ). after_put window n (under solo.subscription does.envelope)) is_next in
-      let found = found_one does.envelope mid place' does.asked in
+      let looked = looked_for solo.subscription (Some does.envelope) old mid (first_place slot) place' does.found in
+      let found = found_one does.envelope mid place' looked.1 in
       let more : length (unacknowledged behind) ≡ length (unacknowledged solo) + 1 = ap length (open_push solo.handed_out slot solo.subscription next) ∙ length_push (unacknowledged solo) next in
       let room = has_quota does.room in
       let left : quota solo - length (unacknowledged solo) ≡ suc (quota behind - length (unacknowledged behind)) = omega (arith, more, room) in (
@@ -220,13 +247,13 @@ module _ (slot : ℕ) (solo : SoloState) (member : solo.membership ≡ Member sl
       )
 
 pub sends_fresh : (packets : List Packet) (slot : ℕ) (solo : SoloState) → solo.membership ≡ Member slot → (window : Contents Held) (old : Broker) → ShowsBroker solo window.owed old → ShowsWindow solo window
-    → (place' : GroupPlace) (window' : Contents Held) (new : Broker) → SendsFresh Calls solo.subscription old (first_place slot) window packets place' window' new
+    → (place' : GroupPlace) (window' : Contents Held) (new : Broker) → SendsFresh Calls (plainly solo.subscription) old (first_place slot) window packets place' window' new
     → Delivers (hand_out slot (due slot solo) solo) slot old packets place' window' new
 sends_fresh [] slot solo member window old shows holds place' window' new does = sends_none slot solo member window old shows holds new window' place' does
 sends_fresh (packet ∷ packets) slot solo member window old shows holds place' window' new does =
     let one = sends_one slot solo member window old shows holds packet does.2 does.1 does.0 does.3 in
     let later = with_hand_out slot (least_free (unacknowledged solo)) solo in
-    let again = subst (λ (p : GroupPlace). SendsFresh Calls solo.subscription does.2 p does.1 packets place' window' new) one.5 does.4 in
+    let again = subst (λ (p : GroupPlace). SendsFresh Calls (plainly solo.subscription) does.2 p does.1 packets place' window' new) one.5 does.4 in
     let rest = sends_fresh packets slot later member does.1 does.2 one.3 one.4 place' window' new again in
     subst (λ (messages : List Message). Delivers (hand_out slot messages solo) slot old (packet ∷ packets) place' window' new) (sym one.1)
     (record {

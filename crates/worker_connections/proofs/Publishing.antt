@@ -8,8 +8,10 @@ use Rattle.mqtt_packet.specs.declared.packet.Packet.{Packet}
 use Rattle.mqtt_packet.specs.declared.packet.Packet.TheVariants as packets
 use Rattle.mqtt_packet.specs.declared.packet.Publish.{Publish}
 use Rattle.transport.specs.declared.counts.Counts.{Counts}
+use Rattle.group_jobs.specs.declared.fate.Fate.{Fate}
 use Rattle.group_jobs.specs.declared.message.Message.{Message}
 use Rattle.group_jobs.specs.declared.stamp.Stamp.{Stamp}
+use Rattle.group_jobs.specs.Stamps.{Held}
 use Rattle.group_queue.specs.Ports.{GroupId, PortState}
 use Rattle.broker_groups.specs.Answers.{Sights}
 use Rattle.group_queue.specs.Places.{PlaceState}
@@ -35,7 +37,7 @@ use Rattle.conn_engine.specs.declared.input.Input.TheVariants as inputs
 use Rattle.conn_engine.specs.declared.phase.ConnectedClient.{ConnectedClient}
 use Rattle.conn_engine.specs.declared.phase.ConnPhase.{ConnPhase}
 use Rattle.conn_engine.specs.declared.phase.ConnPhase.TheVariants.{Unconnected, Waiting, Connected, Ended}
-use Rattle.conn_engine.specs.Step.{AnswersFirst, AnswersPacket, AnswersUnlessKicked, Concludes, FailsToHand, FailsToReact, FailsToStep, GivesUp as LeavesOff, Hands, HandsLess, Reacts, Steps as StepsTo, after_hand_out}
+use Rattle.conn_engine.specs.Step.{AnswersFirst, AnswersPacket, AnswersUnlessKicked, Concludes, FailsToHand, FailsToReact, FailsToStep, GivesUp as LeavesOff, Hands, HandsLess, Reacts, Steps as StepsTo, after_hand_out, hand_out_terms}
 use Rattle.conn_laws.specs.Calls.{offer_of, offered, MakesAll as MakesCalls, OffersToEach, OffersNone, OffersToSome}
 use Rattle.conn_laws.proofs.Calling.{Plain, handed_some, parted}
 use Rattle.conn_laws.proofs.Failing.{failed}
@@ -130,7 +132,7 @@ module _ (group : ℕ → GroupId) (seen : Sights) where
       let parts = none_found (offer_of supply_call) (offered supply_calls) none in
       all_stay supply_calls made.0 new parts.1 made.2 ∙ stays supply_call old.ports made.0.ports (called supply_call old made.0 made.1) parts.0
 
-  plain : {given : List Message} {before after : List PlaceState} (old new : Worker) → Plain (Calls group seen) given before after old new → new.ports ≡ old.ports
+  plain : {given : List (PlaceState × Held)} {thrown : List (Held × Fate)} {before after : List PlaceState} (old new : Worker) → Plain (Calls group seen) given thrown before after old new → new.ports ≡ old.ports
   plain old new calls = all_stay calls.supply_calls old new calls.offers calls.made
 
   -- a message is offered to each of these slots
@@ -345,7 +347,7 @@ module _ (group : ℕ → GroupId) (seen : Sights) where
   handed_less (Unconnected opened) old new now hands = absurd hands
   handed_less (Waiting request ticks) old new now hands = absurd hands
   handed_less (Connected connected) old new now hands =
-      let some = handed_some (Calls group seen) connected.session.subscription old hands.2 connected.session.membership connected.session.window hands.0 hands.1 hands.3 in
+      let some = handed_some (Calls group seen) (hand_out_terms connected) old hands.2 connected.session.membership connected.session.window hands.0 hands.1 hands.3 in
       plain hands.2 new (parted (Calls group seen) hands.2 new (after_hand_out connected hands.0 hands.1).session now hands.4) ∙ plain old hands.2 some.1
   handed_less Ended old new now hands = absurd hands
 

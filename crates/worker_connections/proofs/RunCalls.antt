@@ -8,10 +8,9 @@ use Rattle.conn_supply.specs.SupplyCalls.{SupplyCall}
 use Rattle.conn_supply.specs.SupplyCalls.SupplyCall.{Kicked}
 use Rattle.conn_engine.specs.declared.input.Input.TheVariants as inputs
 use Rattle.conn_engine.specs.Step.{Steps as ConnSteps}
-use Rattle.conn_laws.proofs.Ended.{silent}
-use Rattle.conn_laws.specs.Calls.{handed}
+use Rattle.conn_laws.proofs.Ended.{ends_by, silent}
 use Rattle.conn_laws.proofs.Failing.{failed, failed_at_the_end}
-use Rattle.conn_laws.proofs.Stepping.{none_of_none, stepped}
+use Rattle.conn_laws.proofs.Stepping.{none_at_the_end, stepped}
 use Rattle.client_table.specs.Clients.{IsGivenUp, moment_of}
 use Rattle.conn_service.specs.Acts.{Act, Enters, Leaves as Left, Asks, Reads, Writes, Steps, Loses, Fails, Starves, IsFull, IsStopped, Stalls, GivesUp, Ends, Others}
 use Rattle.conn_service.specs.Lives.{Does, DoesAll}
@@ -34,7 +33,8 @@ module _ {T : Type 0} (group : ℕ → GroupId) (seen : Sights) (counts : T → 
       let none = silent (Calls group seen) slot_of supply supply' old.client.conn.number now old.client.conn.phase new.client.conn.phase moved.0.packets moved.0.next moved.1.stepped in
       let steps = subst (λ packets. ConnSteps (Calls group seen) slot_of supply old.client.conn.number old.client.conn.phase now inputs.EndOfInput packets moved.0.next new.client.conn.phase supply') none moved.1.stepped in
       let step = stepped (Calls group seen) slot_of supply supply' old.client.conn.number now old.client.conn.phase new.client.conn.phase inputs.EndOfInput [] moved.0.next steps in
-      (step.supply_calls, (none_of_none (handed step.supply_calls) (sym step.hands), inl (moved.0.next, (step, refl))))
+      let over = ends_by (Calls group seen) slot_of supply supply' old.client.conn.number now old.client.conn.phase new.client.conn.phase inputs.EndOfInput [] moved.0.next steps tt in
+      (step.supply_calls, (none_at_the_end new.client.conn.phase step.supply_calls step.outcomes over step.fit step.handed_out, inl (moved.0.next, (step, refl))))
   the_last at old new supply supply' (inr fails) =
       let step = failed_at_the_end (Calls group seen) slot_of supply supply' old.client.conn.number (moment_of old.client at) old.client.conn.phase fails.failed in
       (step.0.supply_calls, (step.1, inr (step.0, refl, fails.over)))

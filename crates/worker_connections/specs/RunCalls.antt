@@ -22,8 +22,8 @@ use Rattle.worker_connections.specs.Cells.{InCell}
 use Rattle.worker_connections.specs.Chains.{Deed, MadeRound, LeavesCell, Makes, Run, RunState}
 
 module _ {T : Type 0} (group : ℕ → GroupId) (seen : Sights) where
-  -- the calls of a step of the connection, by which these packets are sent: each message that they hand out is in one of these packets, a message that they settle is the one
-  -- that the PUBACK came for, and the places are kept
+  -- the calls of a step of the connection, by which these packets are sent: each message that they hand out is in one of these packets, or is discarded, any other message that they
+  -- settle is the one that the PUBACK came for, and the places are kept
   abbrev pub AreOfStep : Input → List Packet → Then → ServiceState PlaceState T → Worker → List (SupplyCall PlaceState) → ServiceState PlaceState T → Worker → Type 0
   AreOfStep input sent next old supply calls new supply' =
       (step : StepCalls (Calls group seen) supply old.client.conn.number old.client.conn.phase input sent next new.client.conn.phase supply') × (calls ≡ step.supply_calls)

@@ -1,5 +1,5 @@
 -- What was given back is out from then on, whatever the Subscription Identifier under which it is sent.
-use Rattle.std.proofs.Common.{List, Option, Ok, ℕ, subst, sym}
+use Rattle.std.proofs.Common.{Option, Ok, subst}
 use Rattle.group_jobs.specs.Stamps.{Held}
 use Rattle.conn_supply.specs.Holding.{with_found}
 use Rattle.conn_supply.proofs.hand_outs.ask.Goals as goal
