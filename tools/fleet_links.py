@@ -164,13 +164,13 @@ class Publisher(Link):
         identifier = self.jobs % 65_535 + 1
         payload = f"{self.name} {self.jobs} ".encode()
         payload += b"x" * self.rule.choice((0, 1, 60, 5_000 if self.large else 7))
+        sent = publish(group_topic, payload, identifier)
         jobs = []
         for group in self.fleet.groups:
             if group.topic == group_topic:
-                job = Job(payload, self.name, self.jobs, group_topic)
+                job = Job(payload, self.name, self.jobs, group_topic, len(sent))
                 group.jobs[payload] = job
                 jobs.append(job)
-        sent = publish(group_topic, payload, identifier)
         if self.end_by == "cut" and not self.left:
             # only a part of the last packet, which is not published then
             sent = sent[: self.rule.randrange(1, len(sent))]

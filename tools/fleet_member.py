@@ -42,7 +42,7 @@ class Member(Link):
         old = identity.session
         if old is not None and (self.clean or old.expiry == 0):
             old.may_have_ended()
-        self.say(connect(identity.name, self.clean, self.expiry, self.maximum))
+        self.say(connect(identity.name, self.clean, self.expiry, self.maximum, maximum_packet_size=identity.takes))
         identity.note(self, f"connects, Clean Start {self.clean}, expiry {self.expiry}, Receive Maximum {self.maximum}")
 
     def limit(self):
@@ -147,6 +147,8 @@ class Member(Link):
             raise Fault(f"{where}: identifier")
         if identifier in self.window:
             raise Fault(f"{where}: the identifier is in use")
+        if self.identity.takes and job.size > self.identity.takes:
+            raise Fault(f"{where}: {job.size} bytes, Maximum Packet Size {self.identity.takes}")
         self.window[identifier] = job
         if len(self.window) > self.limit():
             raise Fault(f"{where}: {len(self.window)} unacknowledged, Receive Maximum {self.maximum}")
@@ -256,6 +258,7 @@ class Member(Link):
         if self.session.group is None:
             self.session.group = self.group
             self.group.sessions += 1
+            self.group.discards = self.group.discards or self.identity.takes > 0
         self.say(subscribe(self.group.share))
 
     def act(self):

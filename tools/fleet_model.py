@@ -3,6 +3,9 @@ import collections
 import time
 
 
+LEAST_MAXIMUM = 64  # the least Maximum Packet Size that the broker takes
+
+
 class Fault(Exception):
     """The broker did what it is not to do."""
 
@@ -17,13 +20,15 @@ class Group:
         self.turned = {}  # jobs whose first delivery came behind a later job of their publisher
         self.last = {}  # by session and publisher, the number of the latest first delivery
         self.sessions = 0  # how many sessions were a member of it
+        self.discards = False  # whether one of them took no long packets
 
 
 class Job:
     """A job in one group, and what was seen of it."""
 
-    def __init__(self, payload, publisher, number, topic):
+    def __init__(self, payload, publisher, number, topic, size):
         self.payload, self.publisher, self.number, self.topic = payload, publisher, number, topic
+        self.size = size  # the bytes of its PUBLISH
         self.accepted = None  # None while it is open
         self.holder = None  # the session that it was last seen at
         self.code = None  # the Reason Code of the PUBACK that its holder sent
@@ -37,6 +42,8 @@ class Job:
         if self.sure:
             return {fate_of(self.code)}
         unseen = {"held", "returned"} if group.hidden else set()
+        if self.may_be_discarded(group):
+            unseen.add("discarded")
         if self.vague:
             held = {"held"} if any(session.ended != "surely" for session in self.seen) else set()
             back = {"returned"} | unseen if all(session.ended != "not" for session in self.seen) else set()
@@ -51,6 +58,10 @@ class Job:
         if self.code is not None:
             found.add(fate_of(self.code))
         return found
+
+    def may_be_discarded(self, group):
+        """Whether it may have been handed to a member that it is too long for: which member had its turn nobody sees."""
+        return group.discards and self.size > LEAST_MAXIMUM
 
 
 def fate_of(code):
@@ -77,6 +88,7 @@ class Identity:
 
     def __init__(self, name, hasty=False):
         self.name, self.hasty, self.session, self.open, self.links = name, hasty, None, [], []
+        self.takes = 0  # its Maximum Packet Size, where it names one
         self.log = collections.deque(maxlen=200)
 
     def note(self, link, what):

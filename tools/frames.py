@@ -31,9 +31,10 @@ def packet(first, body):
     return bytes([first]) + length(len(body)) + body
 
 
-def connect(name, clean=True, expiry=0, receive_maximum=0, keep_alive=0):
+def connect(name, clean=True, expiry=0, receive_maximum=0, keep_alive=0, maximum_packet_size=0):
     properties = b"\x11" + expiry.to_bytes(4, "big") if expiry else b""
     properties += b"\x21" + receive_maximum.to_bytes(2, "big") if receive_maximum else b""
+    properties += b"\x27" + maximum_packet_size.to_bytes(4, "big") if maximum_packet_size else b""
     flags = b"\x02" if clean else b"\x00"
     return packet(
         0x10,

@@ -10,7 +10,7 @@ ghost use Rattle.arguments.specs.CommandLine.{AskFor, SpellNoRequest};
 use crate::groups::groups_of;
 use clap::error::ErrorKind;
 use clap::{Arg, ArgAction, ArgMatches, Command, Error, value_parser};
-use conn_rules::{MaxInflight, Setup};
+use conn_rules::{MaxInflight, QueueCapacity, Setup};
 use std::alloc::{AllocError, Global};
 
 /// What the words ask for.
@@ -129,15 +129,26 @@ fn setup(alloc: Global, options: &ArgMatches) -> Result<Setup, Error>
         ⊎ ((kind_of error ≡ ErrorKind.ValueValidation)
         × ((refusal : _) × RefusesOne [] (pairs_in (rows_of (found_of options.now))) refusal))) }
 {
-    let capacity = options.get_one::<u32>("capacity").unwrap_or(1_024);
+    let messages = messages(options);
     let packets = packets(options);
     match groups_of(alloc, options.get_strs("group").unwrap_or(&[]))? {
         Ok(groups) => Ok(Setup {
-            capacity: capacity as usize,
+            capacity: capacity_of(messages),
             max_inflight: limit_of(packets),
             groups,
         }),
         Err(refusal) => { Err(command(alloc)?.error(ErrorKind::ValueValidation, refusal.text())?) }
+    }
+}
+
+/// The capacity of a queue for so many messages.
+pub(crate) fn capacity_of(messages: u32) -> QueueCapacity
+    requires { (1 ≤ messages) × (messages ≤ 65536) }
+    ensures { result ≡ messages }
+{
+    match QueueCapacity::new(messages) {
+        Some(capacity) => capacity,
+        None => unreachable!(),
     }
 }
 
@@ -150,6 +161,16 @@ pub(crate) fn limit_of(packets: u32) -> MaxInflight
         Some(max_inflight) => max_inflight,
         None => unreachable!(),
     }
+}
+
+/// The number of `--capacity`.
+fn messages(options: &ArgMatches) -> u32
+    requires number { (number : ℕ) × HaveCapacity (rows_of (found_of options.now)) number }
+    requires as_written { one_of (codes "capacity") (rows_of (found_of options.now))
+        ≡ first_of (codes "capacity") (rows_of (found_of options.now)) }
+    ensures { HaveCapacity (rows_of (found_of options.now)) result }
+{
+    options.get_one::<u32>("capacity").unwrap_or(1_024)
 }
 
 /// The number of `--max-inflight`.

@@ -13,8 +13,7 @@ pub struct ServeOptions {
     pub port: u16,
     /// How many workers it has, 1 to 64.
     pub workers: u8,
-    /// What its groups begin with: a capacity of 1 to 65,536, and the shares that are bound.
+    /// What its groups begin with.
     pub setup: Setup,
     ghost few: { (1 ≤ workers) × (workers ≤ 64) },
-    ghost room: { (1 ≤ setup.capacity) × (setup.capacity ≤ 65536) },
 }

@@ -6,7 +6,7 @@ ghost use Rattle.arguments.specs.ServeLine.{AskForService, HasNumber, IsServiceB
 ghost use Rattle.arguments.specs.declared.service.ServeOptions.{ServeOptions as AnyService};
 ghost use Rattle.arguments.specs.ServeLine.{address_option, port_option, serve_line, workers_option};
 
-use crate::command::{capacity, group, limit_of, max_inflight};
+use crate::command::{capacity, capacity_of, group, limit_of, max_inflight};
 use crate::groups::groups_of;
 use crate::service::ServeOptions;
 use clap::error::ErrorKind;
@@ -52,7 +52,7 @@ fn service_of(alloc: Global, options: &ArgMatches) -> Result<ServeOptions, Error
             port: port as u16,
             workers: workers as u8,
             setup: Setup {
-                capacity: capacity as usize,
+                capacity: capacity_of(capacity),
                 max_inflight: limit_of(packets),
                 groups,
             },

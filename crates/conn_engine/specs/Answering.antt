@@ -54,7 +54,7 @@ module _ {S P : Type 0} (call : S → SupplyCall P → S → Type 0) (slot_of : 
       × (connected' ≡ with_session connected session) × (reply ≡ going_on None)
   Answers old number connected (packets.Subscribe subscribe) connected' reply new =
       (membership : Membership P) × (subscription : Option ℕ)
-      × Subscribes call slot_of connected.terms old connected.session.membership connected.session.subscription subscribe reply membership subscription new
+      × Subscribes call slot_of old connected.session.membership connected.session.subscription subscribe reply membership subscription new
       × (connected' ≡ subscribing connected membership subscription)
   Answers old number connected (packets.Unsubscribe unsubscribe) connected' reply new =
       (membership : Membership P) × Unsubscribes call slot_of old connected.session.membership unsubscribe reply membership new
@@ -67,7 +67,7 @@ module _ {S P : Type 0} (call : S → SupplyCall P → S → Type 0) (slot_of : 
   abbrev pub FailsToAnswer : S → ℕ → ConnectedClient P → Packet → ConnectedClient P → S → Type 0
   FailsToAnswer old number connected (packets.Publish publish) connected' new = IsCutShort call old number publish new × (connected' ≡ connected)
   FailsToAnswer old number connected (packets.Subscribe subscribe) connected' new =
-      (membership : Membership P) × AnswersSome call slot_of connected.terms old connected.session.membership subscribe.subscriptions membership new
+      (membership : Membership P) × AnswersSome call slot_of old connected.session.membership subscribe.subscriptions membership new
       × (connected' ≡ joining connected membership)
   FailsToAnswer old number connected (packets.Unsubscribe unsubscribe) connected' new = (connected' ≡ connected) × (new ≡ old)
   FailsToAnswer old number connected other connected' new = ⊥

@@ -1,10 +1,11 @@
 -- What a connection answers to a CONNECT, and to a Tick while it waits for a session (sections 3.1 and 3.2, profile).
-use Rattle.std.specs.Prelude.{◌≡◌, ℕ, ◌+◌, nat_lt, Bool, true, false, not, ◌&&◌, List, [], ◌∷◌, Option, Some, None, Result, Ok, Err}
+use Rattle.std.specs.Prelude.{◌≡◌, ℕ, ◌+◌, nat_lt, Bool, true, false, List, [], ◌∷◌, Option, Some, None, Result, Ok, Err}
+use Rattle.std.specs.List.{list_any}
 use Rattle.mqtt_packet.specs.Texts.{is_text}
 use Rattle.mqtt_packet.specs.declared.packet.ConnectRefusal.{ConnectRefusal}
 use Rattle.mqtt_packet.specs.declared.packet.ConnectRefusal.TheVariants as refusals
 use Rattle.group_jobs.specs.Stamps.{Held}
-use Rattle.member_window.specs.Contents.{after_up}
+use Rattle.member_window.specs.Contents.{Contents, held_of, after_up}
 use Rattle.session_desk.specs.Sessions.{Who}
 use Rattle.session_desk.specs.Attaching.{asked}
 use Rattle.session_desk.specs.declared.attached.Attached.{Attached}
@@ -12,8 +13,7 @@ use Rattle.session_desk.specs.declared.attached.Attached.TheVariants.{New, Resum
 use Rattle.session_desk.specs.declared.error.DeskError.{DeskError}
 use Rattle.session_desk.specs.declared.error.DeskError.TheVariants as errors
 use Rattle.session_desk.specs.declared.session.Session.{Session}
-use Rattle.session_desk.specs.declared.session.Membership.{Membership}
-use Rattle.session_desk.specs.declared.session.Membership.TheVariants.{NotMember, Member, Leaving}
+use Rattle.conn_rules.specs.HandOuts.{is_big}
 use Rattle.conn_rules.specs.Packets.{accepting, refusing}
 use Rattle.conn_rules.specs.declared.terms.Terms.{Terms}
 use Rattle.conn_supply.specs.declared.reply.Reply.{Reply}
@@ -49,11 +49,9 @@ abbrev pub assigned : List ℕ → Who → Option (List ℕ)
 assigned [] who = name_if (is_text who.client) who.client
 assigned (byte ∷ bytes) who = None
 
--- the session has a place in a group
-abbrev pub has_place : {P : Type 0} → Membership P → Bool
-has_place NotMember = false
-has_place (Member place) = true
-has_place (Leaving place) = true
+-- a session holds a message whose PUBLISH, as it was sent first, is longer than a client of this Maximum Packet Size takes (3.1.2.11.4)
+abbrev pub holds_big : Option ℕ → Contents Held → Bool
+holds_big maximum window = list_any (λ entry. is_big maximum entry.1.subscription entry.1.message) (held_of window)
 
 -- the connection is refused, and closed (3.2.2.2)
 pub record IsRefused {P : Type 0} (refusal : ConnectRefusal) (phase : ConnPhase P) (reply : Reply) : Type 0 where
@@ -76,7 +74,7 @@ module _ {S P : Type 0} (call : S → SupplyCall P → S → Type 0) where
   RetiresEarlier old None new = new ≡ old
   RetiresEarlier old (Some ended) new = (gone : Bool) × Retires call old ended gone new
 
-  -- the session of a member is not for a client that does not take every packet (profile, for now)
+  -- a session that holds what is too long for its client is not for it, and stays as it was (profile)
   abbrev pub ResumesAs : Bool → S → ConnectRequest → Session Held P → ConnPhase P → Reply → S → Type 0
   ResumesAs true old request session phase reply new = call old (ParkAsIs (down session)) new × IsRefused refusals.ImplementationSpecificError phase reply
   ResumesAs false old request session phase reply new = (new ≡ old) × Accepts request true session phase reply
@@ -85,7 +83,7 @@ module _ {S P : Type 0} (call : S → SupplyCall P → S → Type 0) where
   abbrev pub AttachedAs : S → ConnectRequest → ℕ → Result (Attached Held P) DeskError → ConnPhase P → Reply → S → Type 0
   AttachedAs old request ticks (Ok (New session ended)) phase reply new = RetiresEarlier old ended new × Accepts request false session phase reply
   AttachedAs old request ticks (Ok (Resumed session)) phase reply new =
-      ResumesAs (has_place session.membership && not request.terms.takes_all_packets) old request session phase reply new
+      ResumesAs (holds_big request.terms.maximum_packet_size session.window) old request session phase reply new
   AttachedAs old request ticks (Ok (Replace holder)) phase reply new = WaitsAs (nat_lt ticks most_ticks) request ticks phase reply × (new ≡ old)
   AttachedAs old request ticks (Ok Busy) phase reply new = IsRefused refusals.ServerBusy phase reply × (new ≡ old)
   AttachedAs old request ticks (Err errors.Full) phase reply new = IsRefused refusals.ServerBusy phase reply × (new ≡ old)

@@ -45,9 +45,9 @@ request_of max_inflight connect now =
 abbrev pub hearing : {P : Type 0} → ConnectedClient P → ℕ → ConnectedClient P
 hearing connected now = record { session = connected.session; terms = connected.terms; heard = max connected.heard now }
 
--- what a client is sent its messages under (3.3.2.3.8); none is too long for it, as it is no member unless it takes each (profile, for now)
+-- what a client is sent its messages under: its subscription's identifier (3.3.2.3.8), and its Maximum Packet Size (3.1.2.11.4)
 abbrev pub hand_out_terms : {P : Type 0} → ConnectedClient P → HandOutTerms
-hand_out_terms connected = record { subscription = connected.session.subscription; maximum_packet_size = None }
+hand_out_terms connected = record { subscription = connected.session.subscription; maximum_packet_size = connected.terms.maximum_packet_size }
 
 -- the session of a connection has this membership and this window
 abbrev pub after_hand_out : {P : Type 0} → ConnectedClient P → Membership P → Contents Held → ConnectedClient P

@@ -74,7 +74,6 @@ fn join<P: HoldingPlace, S: Supply<P>>(
         alloc,
         membership,
         &mut connected.session.subscription,
-        &connected.terms,
         packet,
     );
     connected.put_membership(membership);

@@ -1,19 +1,23 @@
 //! The answer to a CONNECT, and to a Tick while a connection waits for a session (sections 3.1 and 3.2).
-ghost use Rattle.std.specs.Prelude.{◌≡◌, ◌<◌, ◌≤◌, ◌↔◌, ◌&&◌, nat_lt, not, length, IfOk, IfSome, IsOk, IsTrue, MatchResult};
+ghost use Rattle.std.specs.Prelude.{◌≡◌, ◌<◌, ◌≤◌, ◌↔◌, ℕ, nat_lt, length, slice_get, Some, IfOk, IfSome, IsOk, IsTrue, MatchResult};
+ghost use Rattle.group_jobs.specs.Stamps.{Held};
+ghost use Rattle.member_window.specs.Contents.{held_of};
+ghost use Rattle.conn_rules.specs.HandOuts.{is_big};
 ghost use Rattle.conn_supply.specs.Holding.{IsOutAtPlace};
 ghost use Rattle.conn_supply.specs.Ready.{IsSoundSession};
-ghost use Rattle.conn_engine.specs.Connecting.{opened, assigned, has_place, IsRefused, Accepts, RetiresEarlier, ResumesAs, Attaches, FailsToAttach, most_ticks, WaitsAs, TriesAgain, FailsAgain};
+ghost use Rattle.conn_engine.specs.Connecting.{opened, assigned, holds_big, IsRefused, Accepts, RetiresEarlier, ResumesAs, Attaches, FailsToAttach, most_ticks, WaitsAs, TriesAgain, FailsAgain};
 ghost use Rattle.conn_engine.specs.Ending.{Parts};
 ghost use Rattle.conn_engine.specs.Phases.{IsSoundPhase, IsWaiting};
 ghost use Rattle.conn_engine.specs.declared.phase.ConnPhase.TheVariants.{Ended};
 
 use crate::ending::{part, part_as_is, retire};
 use crate::phase::{ConnPhase, ConnectRequest, ConnectedClient};
-use conn_rules::{accepting, refusing};
+use conn_rules::{Terms, accepting, is_big, refusing};
 use conn_supply::{HoldingPlace, NoMemory, Reply, Supply};
 use group_jobs::Envelope;
-use mqtt_packet::{ConnectRefusal, Text};
-use session_desk::{Attached, DeskError, Identity, Membership, Session};
+use member_window::Window;
+use mqtt_packet::{ConnectRefusal, MaximumPacketSize, Text};
+use session_desk::{Attached, DeskError, Identity, Session};
 
 /// For how many Ticks a connection waits for a session.
 const MOST_TICKS: u8 = 100;
@@ -130,7 +134,7 @@ fn retire_earlier<P: HoldingPlace, S: Supply<P>>(
     }
 }
 
-/// The connection begins with the session that the client had; but a member's is not for a client that does not take every packet.
+/// The connection begins with the session that the client had; but one that holds what is too long for the client is not for it, and stays as it was.
 fn resume<P: HoldingPlace, S: Supply<P>>(
     supply: &mut S,
     now: u64,
@@ -139,28 +143,60 @@ fn resume<P: HoldingPlace, S: Supply<P>>(
 ) -> (ConnPhase<P>, Result<Reply, NoMemory>)
     requires { IsSoundSession P.has_out session }
     ensures answered { MatchResult result.1
-        (λ reply. ResumesAs S.call (has_place session.membership && not request.terms.takes_all_packets) supply.old request session result.0 reply supply.new)
+        (λ reply. ResumesAs S.call (holds_big request.terms.maximum_packet_size session.window) supply.old request session result.0 reply supply.new)
         (λ _. (result.0 ≡ Ended) × Parts S.call supply.old (opened session request.terms) now supply.new) }
     ensures sound { IsSoundPhase P.has_out result.0 }
     ensures visiting { S.visiting supply.new ≡ S.visiting supply.old }
 {
-    if has_place(&session.membership) && !request.terms.takes_all_packets {
-        part_as_is(supply, session);
-        refuse(ConnectRefusal::ImplementationSpecificError)
-    } else {
-        accept(supply, now, request, session, true)
+    match holds_big(&session.window, &request.terms) {
+        Ok(true) => {
+            part_as_is(supply, session);
+            refuse(ConnectRefusal::ImplementationSpecificError)
+        }
+        Ok(false) => accept(supply, now, request, session, true),
+        Err(NoMemory) => {
+            let session = open(session, &request.terms);
+            part(supply, session, now);
+            (ConnPhase::Ended, Err(NoMemory))
+        }
     }
 }
 
-/// Whether a session has a place in a group.
-fn has_place<P>(membership: &Membership<P>) -> bool
-    ensures { result ≡ has_place membership.now }
+/// Whether a window holds a message whose PUBLISH, as it was sent first, is longer than a client of these terms takes (section 3.1.2.11.4).
+fn holds_big(window: &Window<Envelope>, terms: &Terms) -> Result<bool, NoMemory>
+    ensures { IfOk result (λ big. big ≡ holds_big terms.now.maximum_packet_size window.now) }
 {
-    match membership {
-        Membership::NotMember => false,
-        Membership::Member(_) => true,
-        Membership::Leaving(_) => true,
+    'held: for place in 0..window.len() {
+        if is_big_at(window, place, terms)? {
+            return Ok(true);
+        }
     }
+    Ok(false)
+}
+
+/// Whether the message at this place of a window is one.
+fn is_big_at(window: &Window<Envelope>, place: usize, terms: &Terms) -> Result<bool, NoMemory>
+    ensures { IfOk result (λ big. (entry : ℕ × Held) → slice_get (held_of window.now) place ≡ Some entry → big ≡ is_big terms.now.maximum_packet_size entry.1.subscription entry.1.message) }
+{
+    match window.get(place) {
+        Some((_, envelope)) => Ok(is_big(
+            envelope.message(),
+            envelope.subscription(),
+            terms.maximum_packet_size,
+        )?),
+        None => Ok(false),
+    }
+}
+
+/// A session that begins under these terms.
+fn open<P: HoldingPlace>(mut session: Session<Envelope, P>, terms: &Terms) -> Session<Envelope, P>
+    requires { IsSoundSession P.has_out session }
+    ensures opened { result ≡ opened session terms.now }
+    ensures sound { IsSoundSession P.has_out result }
+{
+    session.window.up(terms.receive_maximum);
+    session.expiry.seconds = terms.session_expiry_interval;
+    session
 }
 
 /// The connection begins with this session.
@@ -168,7 +204,7 @@ fn accept<P: HoldingPlace, S: Supply<P>>(
     supply: &mut S,
     now: u64,
     request: ConnectRequest,
-    mut session: Session<Envelope, P>,
+    session: Session<Envelope, P>,
     present: bool,
 ) -> (ConnPhase<P>, Result<Reply, NoMemory>)
     requires { IsSoundSession P.has_out session }
@@ -178,8 +214,7 @@ fn accept<P: HoldingPlace, S: Supply<P>>(
     ensures sound { IsSoundPhase P.has_out result.0 }
     ensures visiting { S.visiting supply.new ≡ S.visiting supply.old }
 {
-    session.window.up(request.terms.receive_maximum);
-    session.expiry.seconds = request.terms.session_expiry_interval;
+    let session = open(session, &request.terms);
     match assigned(&request.client, &session.identity) {
         Ok(name) => {
             let connected = ConnectedClient {

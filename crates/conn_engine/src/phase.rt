@@ -36,13 +36,13 @@ pub(crate) struct ConnectedClient<P> {
 }
 
 impl<P> ConnectedClient<P> {
-    /// What the client is sent its messages under. None is too long for it, as it is no member unless it takes each (profile, for now).
+    /// What the client is sent its messages under.
     pub(crate) fn hand_out_terms(&self) -> HandOutTerms
         ensures { result ≡ hand_out_terms self.now }
     {
         HandOutTerms {
             subscription: self.session.subscription,
-            maximum_packet_size: None,
+            maximum_packet_size: self.terms.maximum_packet_size,
         }
     }
 

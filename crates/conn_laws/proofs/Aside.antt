@@ -12,7 +12,6 @@ use Rattle.group_jobs.specs.declared.fate.Fate.{Fate}
 use Rattle.member_window.specs.Contents.{held_of}
 use Rattle.conn_rules.specs.declared.subscribing.EntryAnswer.{EntryAnswer}
 use Rattle.conn_rules.specs.declared.subscribing.EntryAnswer.TheVariants as entries
-use Rattle.conn_rules.specs.declared.terms.Terms.{Terms}
 use Rattle.conn_rules.specs.Subscribing.{entry_answer}
 use Rattle.session_desk.specs.Everything.{place_in, place_of}
 use Rattle.session_desk.specs.declared.session.Session.{Session}
@@ -197,26 +196,26 @@ module _ {S P : Type 0} (call : S → SupplyCall P → S → Type 0) where
     entry_answered (entries.Refuse code') old new membership code membership' answers = still old new (ap place_in answers.1) answers.2
     entry_answered (entries.Join share) old new membership code membership' answers = joined membership old new share code membership' answers
 
-    pub entries_answered : (subscriptions : List Subscription) (terms : Terms) (old new : S) (membership : Membership P) (codes : List ℕ) (membership' : Membership P)
-        → AnswersEntries call slot_of terms old membership subscriptions codes membership' new → Aside [] [] (place_in membership) (place_in membership') old new
-    entries_answered [] terms old new membership codes membership' answers = still old new (ap place_in answers.1) answers.2
-    entries_answered (entry ∷ others) terms old new membership codes membership' answers =
-        behind old answers.3 new (entry_answered (entry_answer entry terms) old answers.3 membership answers.0 answers.2 answers.4)
-        (entries_answered others terms answers.3 new answers.2 answers.1 membership' answers.5)
+    pub entries_answered : (subscriptions : List Subscription) (old new : S) (membership : Membership P) (codes : List ℕ) (membership' : Membership P)
+        → AnswersEntries call slot_of old membership subscriptions codes membership' new → Aside [] [] (place_in membership) (place_in membership') old new
+    entries_answered [] old new membership codes membership' answers = still old new (ap place_in answers.1) answers.2
+    entries_answered (entry ∷ others) old new membership codes membership' answers =
+        behind old answers.3 new (entry_answered (entry_answer entry) old answers.3 membership answers.0 answers.2 answers.4)
+        (entries_answered others answers.3 new answers.2 answers.1 membership' answers.5)
 
-    first_answered : (subscriptions : List Subscription) (terms : Terms) (old new : S) (membership membership' : Membership P)
-        → AnswersFirst call slot_of terms old membership subscriptions membership' new → Aside [] [] (place_in membership) (place_in membership') old new
-    first_answered [] terms old new membership membership' answers = absurd answers
-    first_answered (entry ∷ others) terms old new membership membership' (inl unbound) =
+    first_answered : (subscriptions : List Subscription) (old new : S) (membership membership' : Membership P)
+        → AnswersFirst call slot_of old membership subscriptions membership' new → Aside [] [] (place_in membership) (place_in membership') old new
+    first_answered [] old new membership membership' answers = absurd answers
+    first_answered (entry ∷ others) old new membership membership' (inl unbound) =
         becomes (ap place_in unbound.2) (beside (place_in membership) (one old new _ unbound.1 tt refl refl refl refl))
-    first_answered (entry ∷ others) terms old new membership membership' (inr answers) =
-        behind old answers.2 new (entry_answered (entry_answer entry terms) old answers.2 membership answers.0 answers.1 answers.3)
-        (first_answered others terms answers.2 new answers.1 membership' answers.4)
+    first_answered (entry ∷ others) old new membership membership' (inr answers) =
+        behind old answers.2 new (entry_answered (entry_answer entry) old answers.2 membership answers.0 answers.1 answers.3)
+        (first_answered others answers.2 new answers.1 membership' answers.4)
 
-    pub some_answered : (old new : S) (subscriptions : List Subscription) (terms : Terms) (membership membership' : Membership P)
-        → AnswersSome call slot_of terms old membership subscriptions membership' new → Aside [] [] (place_in membership) (place_in membership') old new
-    some_answered old new subscriptions terms membership membership' (inl none) = still old new (ap place_in none.0) none.1
-    some_answered old new subscriptions terms membership membership' (inr answers) = first_answered subscriptions terms old new membership membership' answers
+    pub some_answered : (old new : S) (subscriptions : List Subscription) (membership membership' : Membership P)
+        → AnswersSome call slot_of old membership subscriptions membership' new → Aside [] [] (place_in membership) (place_in membership') old new
+    some_answered old new subscriptions membership membership' (inl none) = still old new (ap place_in none.0) none.1
+    some_answered old new subscriptions membership membership' (inr answers) = first_answered subscriptions old new membership membership' answers
 
     left : (membership : Membership P) (parsed : Result Share TopicError) (old new : S) (code : ℕ) (membership' : Membership P)
         → LeavesBy call slot_of old membership parsed code membership' new → Aside [] [] (place_in membership) (place_in membership') old new
@@ -232,10 +231,10 @@ module _ {S P : Type 0} (call : S → SupplyCall P → S → Type 0) where
     all_left (text ∷ texts) old new membership codes membership' leaves =
         behind old leaves.3 new (left membership (share_of text) old leaves.3 leaves.0 leaves.2 leaves.4) (all_left texts leaves.3 new leaves.2 leaves.1 membership' leaves.5)
 
-    pub subscribed_as : (refused : Option ℕ) (old new : S) (terms : Terms) (membership : Membership P) (subscription : Option ℕ) (subscribe : Subscribe) (reply : Reply) (membership' : Membership P) (subscription' : Option ℕ)
-        → SubscribesAs call slot_of refused terms old membership subscription subscribe reply membership' subscription' new → Aside [] [] (place_in membership) (place_in membership') old new
-    subscribed_as (Some code) old new terms membership subscription subscribe reply membership' subscription' does = still old new (ap place_in does.1) does.3
-    subscribed_as None old new terms membership subscription subscribe reply membership' subscription' does = entries_answered subscribe.subscriptions terms old new membership does.0 membership' does.2
+    pub subscribed_as : (refused : Option ℕ) (old new : S) (membership : Membership P) (subscription : Option ℕ) (subscribe : Subscribe) (reply : Reply) (membership' : Membership P) (subscription' : Option ℕ)
+        → SubscribesAs call slot_of refused old membership subscription subscribe reply membership' subscription' new → Aside [] [] (place_in membership) (place_in membership') old new
+    subscribed_as (Some code) old new membership subscription subscribe reply membership' subscription' does = still old new (ap place_in does.1) does.3
+    subscribed_as None old new membership subscription subscribe reply membership' subscription' does = entries_answered subscribe.subscriptions old new membership does.0 membership' does.2
 
     pub unsubscribed_as : (refused : Option ℕ) (old new : S) (membership : Membership P) (unsubscribe : Unsubscribe) (reply : Reply) (membership' : Membership P)
         → UnsubscribesAs call slot_of refused old membership unsubscribe reply membership' new → Aside [] [] (place_in membership) (place_in membership') old new

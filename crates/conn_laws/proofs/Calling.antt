@@ -1,5 +1,5 @@
 -- Calls one after the other, by which nothing is offered and nothing is settled, and what they hand out.
-use Rattle.std.proofs.Common.{◌≡◌, ℕ, Bool, true, false, List, [], ◌∷◌, ◌++◌, filter_map, Option, None, Result, Ok, Err, refl, sym, ap, subst, ◌∙◌, inl, inr, nat_lt, not, ◌&&◌}
+use Rattle.std.proofs.Common.{◌≡◌, ℕ, Bool, true, false, List, [], ◌∷◌, ◌++◌, filter_map, Option, None, Result, Ok, Err, refl, sym, ap, subst, ◌∙◌, inl, inr, nat_lt}
 use Rattle.std.proofs.lemmas.List.Elements.{filter_map-append}
 use Rattle.mqtt_packet.specs.declared.packet.Subscribe.{Subscribe}
 use Rattle.mqtt_packet.specs.declared.packet.Subscription.{Subscription}
@@ -7,7 +7,6 @@ use Rattle.mqtt_packet.specs.declared.packet.Unsubscribe.{Unsubscribe}
 use Rattle.group_jobs.specs.Stamps.{Held, under}
 use Rattle.group_jobs.specs.declared.fate.Fate.{Fate}
 use Rattle.member_window.specs.Contents.{Contents, after_put}
-use Rattle.conn_rules.specs.declared.terms.Terms.{Terms}
 use Rattle.session_desk.specs.Everything.{place_in, place_of, places_given}
 use Rattle.session_desk.specs.declared.attached.Attached.{Attached}
 use Rattle.session_desk.specs.declared.attached.Attached.TheVariants.{New, Resumed, Replace, Busy}
@@ -22,7 +21,7 @@ use Rattle.conn_supply.specs.HandOuts.{IsRefused, IsCutShort, TakesOne, TakesSom
 use Rattle.conn_supply.specs.Subscribing.{AnswersSome, SubscribesAs, UnsubscribesAs}
 use Rattle.conn_engine.specs.declared.phase.ConnectRequest.{ConnectRequest}
 use Rattle.conn_engine.specs.declared.phase.ConnPhase.{ConnPhase}
-use Rattle.conn_engine.specs.Connecting.{opened, has_place, most_ticks, RetiresEarlier, WaitsAs, ResumesAs, AttachedAs, Attaches, FailsWith, FailsToAttach, TriesAgain, FailsAgain}
+use Rattle.conn_engine.specs.Connecting.{opened, holds_big, most_ticks, RetiresEarlier, WaitsAs, ResumesAs, AttachedAs, Attaches, FailsWith, FailsToAttach, TriesAgain, FailsAgain}
 use Rattle.conn_engine.specs.Ending.{Parts, Sweeps}
 use Rattle.conn_laws.specs.Calls.{offer_of, match_of, settlement_of, hand_out_of, offered, matched, settled, handed, Outcome, hand_outs_of, discards_of, MakesAll}
 use Rattle.conn_laws.specs.Places.{own_places, places_brought, places_taken, KeepsPlaces}
@@ -145,7 +144,7 @@ module _ {S P : Type 0} (call : S → SupplyCall P → S → Type 0) where
   attached_as (Ok (New session before)) old new request ticks phase reply answered =
       becomes (ap own_places answered.1.begun) (replaced before (place_in session.membership) old new answered.0)
   attached_as (Ok (Resumed session)) old new request ticks phase reply answered =
-      resumed_as (has_place session.membership && not request.terms.takes_all_packets) old new request session phase reply answered
+      resumed_as (holds_big request.terms.maximum_packet_size session.window) old new request session phase reply answered
   attached_as (Ok (Replace holder)) old new request ticks phase reply answered =
       still old new (waits_as (nat_lt ticks most_ticks) request ticks phase reply answered.0) answered.1
   attached_as (Ok Busy) old new request ticks phase reply answered = still old new (ap own_places answered.0.over) answered.1
@@ -241,17 +240,17 @@ module _ {S P : Type 0} (call : S → SupplyCall P → S → Type 0) where
 
   -- shares are joined and left
   module _ (slot_of : P → ℕ) where
-    pub subscribed_as : (refused : Option ℕ) (old new : S) (terms : Terms) (membership : Membership P) (subscription : Option ℕ) (subscribe : Subscribe) (reply : Reply) (membership' : Membership P) (subscription' : Option ℕ)
-        → SubscribesAs call slot_of refused terms old membership subscription subscribe reply membership' subscription' new → Plain [] [] (place_in membership) (place_in membership') old new
-    subscribed_as refused old new terms membership subscription subscribe reply membership' subscription' does =
-        plain [] old new (asides.subscribed_as call slot_of refused old new terms membership subscription subscribe reply membership' subscription' does)
+    pub subscribed_as : (refused : Option ℕ) (old new : S) (membership : Membership P) (subscription : Option ℕ) (subscribe : Subscribe) (reply : Reply) (membership' : Membership P) (subscription' : Option ℕ)
+        → SubscribesAs call slot_of refused old membership subscription subscribe reply membership' subscription' new → Plain [] [] (place_in membership) (place_in membership') old new
+    subscribed_as refused old new membership subscription subscribe reply membership' subscription' does =
+        plain [] old new (asides.subscribed_as call slot_of refused old new membership subscription subscribe reply membership' subscription' does)
 
     pub unsubscribed_as : (refused : Option ℕ) (old new : S) (membership : Membership P) (unsubscribe : Unsubscribe) (reply : Reply) (membership' : Membership P)
         → UnsubscribesAs call slot_of refused old membership unsubscribe reply membership' new → Plain [] [] (place_in membership) (place_in membership') old new
     unsubscribed_as refused old new membership unsubscribe reply membership' does =
         plain [] old new (asides.unsubscribed_as call slot_of refused old new membership unsubscribe reply membership' does)
 
-    pub some_answered : (old new : S) (subscriptions : List Subscription) (terms : Terms) (membership membership' : Membership P)
-        → AnswersSome call slot_of terms old membership subscriptions membership' new → Plain [] [] (place_in membership) (place_in membership') old new
-    some_answered old new subscriptions terms membership membership' answers =
-        plain [] old new (asides.some_answered call slot_of old new subscriptions terms membership membership' answers)
+    pub some_answered : (old new : S) (subscriptions : List Subscription) (membership membership' : Membership P)
+        → AnswersSome call slot_of old membership subscriptions membership' new → Plain [] [] (place_in membership) (place_in membership') old new
+    some_answered old new subscriptions membership membership' answers =
+        plain [] old new (asides.some_answered call slot_of old new subscriptions membership membership' answers)

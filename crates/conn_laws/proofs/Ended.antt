@@ -1,5 +1,5 @@
 -- A connection is over exactly where its step says so.
-use Rattle.std.proofs.Common.{◌≡◌, ◌≢◌, ◌↔◌, ℕ, Bool, true, false, List, [], ◌++◌, Option, Some, None, Result, Ok, Err, refl, sym, ap, subst, ◌∙◌, nat_lt, not, ◌&&◌}
+use Rattle.std.proofs.Common.{◌≡◌, ◌≢◌, ◌↔◌, ℕ, Bool, true, false, List, [], ◌++◌, Option, Some, None, Result, Ok, Err, refl, sym, ap, subst, ◌∙◌, nat_lt}
 use Rattle.std.specs.Option.{option_to_list}
 use Rattle.mqtt_packet.specs.declared.packet.Packet.{Packet}
 use Rattle.mqtt_packet.specs.declared.packet.ConnectRefusal.{ConnectRefusal}
@@ -24,7 +24,7 @@ use Rattle.conn_engine.specs.declared.phase.ConnectedClient.{ConnectedClient}
 use Rattle.conn_engine.specs.declared.phase.Opening.{Opening}
 use Rattle.conn_engine.specs.declared.phase.ConnPhase.{ConnPhase}
 use Rattle.conn_engine.specs.declared.phase.ConnPhase.TheVariants.{Unconnected, Waiting, Connected, Ended}
-use Rattle.conn_engine.specs.Connecting.{has_place, most_ticks, IsRefused, Accepts, WaitsAs, ResumesAs, AttachedAs}
+use Rattle.conn_engine.specs.Connecting.{holds_big, most_ticks, IsRefused, Accepts, WaitsAs, ResumesAs, AttachedAs}
 use Rattle.conn_laws.specs.Behind.{IsLast, KeepsOrEnds}
 use Rattle.conn_engine.specs.Step.{IsClosed, IsRefusedIf, WaitsForConnect, AnswersFirst, Concludes, AnswersPacket, AnswersTick, AnswersUnlessKicked, IsHeard, Reacts, Hands, Steps}
 
@@ -80,7 +80,7 @@ module _ {S P : Type 0} (call : S → SupplyCall P → S → Type 0) (slot_of : 
       → AttachedAs call old request ticks answer phase reply new → Agrees phase reply.next
   attached (Ok (New session ended)) old new request ticks phase reply is = accepts phase reply request false session is.1
   attached (Ok (Resumed session)) old new request ticks phase reply is =
-      resumes (has_place session.membership && not request.terms.takes_all_packets) old new request session phase reply is
+      resumes (holds_big request.terms.maximum_packet_size session.window) old new request session phase reply is
   attached (Ok (Replace holder)) old new request ticks phase reply is = waits (nat_lt ticks most_ticks) phase reply request ticks is.0
   attached (Ok Busy) old new request ticks phase reply is = refuses phase reply _ is.0
   attached (Err errors.Full) old new request ticks phase reply is = refuses phase reply _ is.0

@@ -200,7 +200,7 @@ module _ {S P : Type 0} (call : S → SupplyCall P → S → Type 0) where
         plain [] old new number (Connected connected) _ (
         behind call old before new first (
         behind call before after new
-        (some_answered call slot_of before after subscribe.subscriptions connected.terms connected.session.membership fails.0 fails.1)
+        (some_answered call slot_of before after subscribe.subscriptions connected.session.membership fails.0 fails.1)
         (later connected' _ after new fails.2 last)))
     failed_to_answer (packets.Unsubscribe unsubscribe) old before after new number now connected connected' first fails last =
         plain [] old new number (Connected connected) _ (behind call old before new first (behind call before after new (still call before after refl fails.1) (later connected' _ after new fails.0 last)))

@@ -17,12 +17,11 @@ use Rattle.mqtt_fields.proofs.PropertySizeLaws.{publish_length}
 use Rattle.mqtt_wire.proofs.WritingLaws.{properties_size, publish_size, written_length}
 use Rattle.conn_rules.specs.Packets.{job}
 use Rattle.conn_rules.specs.Publishing.{message_of}
-use Rattle.conn_laws.specs.Sizes.{IsLight}
+use Rattle.conn_laws.specs.Sizes.{IsLight, most_publish_bytes}
 use Rattle.conn_laws.proofs.Lengths.{no_more_bytes, one_byte_more, at_most_four, in_three_bytes}
 use Rattle.mqtt_fields.proofs.Variable.{at_least_three}
 use Rattle.mqtt_fields.specs.declared.property.Property.TheVariants.{SubscriptionIdentifier}
 use Rattle.std.proofs.lemmas.Bool.{cases_lt}
-use Rattle.conn_rules.specs.Connecting.{most_publish_bytes}
 
 -- what a function is of
 abbrev domain : {A B : Type 0} → (A → B) → Type 0

@@ -8,7 +8,6 @@ use Rattle.mqtt_topic.specs.declared.error.TopicError.{TopicError}
 use Rattle.mqtt_topic.specs.Names.{Share, share_of}
 use Rattle.conn_rules.specs.declared.subscribing.EntryAnswer.{EntryAnswer}
 use Rattle.conn_rules.specs.declared.subscribing.EntryAnswer.TheVariants as entries
-use Rattle.conn_rules.specs.declared.terms.Terms.{Terms}
 use Rattle.conn_rules.specs.Subscribing.{entry_answer, subscribe_refusal, unsubscribe_refusal}
 use Rattle.conn_rules.specs.Packets.{suback, unsuback}
 use Rattle.session_desk.specs.declared.session.Membership.{Membership}
@@ -95,29 +94,29 @@ module _ {S P : Type 0} (call : S → SupplyCall P → S → Type 0) (AreAlike :
   entry_answered (entries.Refuse code) a a' b b' old c d m n alike h k = ((h.0 ∙ sym k.0, h.1 ∙ sym k.1), calls.still call AreAlike answers a a' b b' alike h.2 k.2)
   entry_answered (entries.Join share) a a' b b' old c d m n alike h k = joined old a a' b b' share c d m n alike h k
 
-  entries_answered : (subscriptions : List Subscription) (a a' b b' : S) (terms : Terms) (old : Membership P) (cs ds : List ℕ) (m n : Membership P) → AreAlike a b
-      → AnswersEntries call slot_of terms a old subscriptions cs m a' → AnswersEntries call slot_of terms b old subscriptions ds n b' → (cs ≡ ds) × (m ≡ n) × AreAlike a' b'
-  entries_answered [] a a' b b' terms old cs ds m n alike h k = (h.0 ∙ sym k.0, h.1 ∙ sym k.1, calls.still call AreAlike answers a a' b b' alike h.2 k.2)
-  entries_answered (entry ∷ others) a a' b b' terms old cs ds m n alike h k =
-      let one = entry_answered (entry_answer entry terms) a h.3 b k.3 old h.0 k.0 h.2 k.2 alike h.4 k.4 in
-      let rest = entries_answered others h.3 a' k.3 b' terms h.2 h.1 k.1 m n one.1 h.5 (subst (λ was. AnswersEntries call slot_of terms k.3 was others k.1 n b') (sym one.0.1) k.5) in
+  entries_answered : (subscriptions : List Subscription) (a a' b b' : S) (old : Membership P) (cs ds : List ℕ) (m n : Membership P) → AreAlike a b
+      → AnswersEntries call slot_of a old subscriptions cs m a' → AnswersEntries call slot_of b old subscriptions ds n b' → (cs ≡ ds) × (m ≡ n) × AreAlike a' b'
+  entries_answered [] a a' b b' old cs ds m n alike h k = (h.0 ∙ sym k.0, h.1 ∙ sym k.1, calls.still call AreAlike answers a a' b b' alike h.2 k.2)
+  entries_answered (entry ∷ others) a a' b b' old cs ds m n alike h k =
+      let one = entry_answered (entry_answer entry) a h.3 b k.3 old h.0 k.0 h.2 k.2 alike h.4 k.4 in
+      let rest = entries_answered others h.3 a' k.3 b' h.2 h.1 k.1 m n one.1 h.5 (subst (λ was. AnswersEntries call slot_of k.3 was others k.1 n b') (sym one.0.1) k.5) in
       (h.6 ∙ (λ i. one.0.0 i ∷ rest.0 i) ∙ sym k.6, rest.1, rest.2)
 
-  subscribed_as : (refused : Option ℕ) (a a' b b' : S) (terms : Terms) (old : Membership P) (was : Option ℕ) (subscribe : Subscribe) (r u : Reply) (m n : Membership P) (s t : Option ℕ) → AreAlike a b
-      → SubscribesAs call slot_of refused terms a old was subscribe r m s a' → SubscribesAs call slot_of refused terms b old was subscribe u n t b' → (r ≡ u) × (m ≡ n) × (s ≡ t) × AreAlike a' b'
-  subscribed_as (Some code) a a' b b' terms old was subscribe r u m n s t alike h k =
+  subscribed_as : (refused : Option ℕ) (a a' b b' : S) (old : Membership P) (was : Option ℕ) (subscribe : Subscribe) (r u : Reply) (m n : Membership P) (s t : Option ℕ) → AreAlike a b
+      → SubscribesAs call slot_of refused a old was subscribe r m s a' → SubscribesAs call slot_of refused b old was subscribe u n t b' → (r ≡ u) × (m ≡ n) × (s ≡ t) × AreAlike a' b'
+  subscribed_as (Some code) a a' b b' old was subscribe r u m n s t alike h k =
       (h.0 ∙ sym k.0, h.1 ∙ sym k.1, h.2 ∙ sym k.2, calls.still call AreAlike answers a a' b b' alike h.3 k.3)
-  subscribed_as None a a' b b' terms old was subscribe r u m n s t alike h k =
-      let one = entries_answered subscribe.subscriptions a a' b b' terms old h.0 k.0 m n alike h.2 k.2 in (
+  subscribed_as None a a' b b' old was subscribe r u m n s t alike h k =
+      let one = entries_answered subscribe.subscriptions a a' b b' old h.0 k.0 m n alike h.2 k.2 in (
         h.1 ∙ ap (λ codes. going_on (Some (suback subscribe.packet_identifier codes))) one.0 ∙ sym k.1,
         one.1,
         h.3 ∙ ap (λ codes. subscription_after codes subscribe.properties.subscription_identifier was) one.0 ∙ sym k.3,
         one.2,
       )
 
-  pub subscribed : (a a' b b' : S) (terms : Terms) (old : Membership P) (was : Option ℕ) (subscribe : Subscribe) (r u : Reply) (m n : Membership P) (s t : Option ℕ) → AreAlike a b
-      → Subscribes call slot_of terms a old was subscribe r m s a' → Subscribes call slot_of terms b old was subscribe u n t b' → (r ≡ u) × (m ≡ n) × (s ≡ t) × AreAlike a' b'
-  subscribed a a' b b' terms old was subscribe r u m n s t alike h k = subscribed_as (subscribe_refusal subscribe) a a' b b' terms old was subscribe r u m n s t alike h k
+  pub subscribed : (a a' b b' : S) (old : Membership P) (was : Option ℕ) (subscribe : Subscribe) (r u : Reply) (m n : Membership P) (s t : Option ℕ) → AreAlike a b
+      → Subscribes call slot_of a old was subscribe r m s a' → Subscribes call slot_of b old was subscribe u n t b' → (r ≡ u) × (m ≡ n) × (s ≡ t) × AreAlike a' b'
+  subscribed a a' b b' old was subscribe r u m n s t alike h k = subscribed_as (subscribe_refusal subscribe) a a' b b' old was subscribe r u m n s t alike h k
 
   -- a share is left
   left : (old : Membership P) (parsed : Result Share TopicError) (a a' b b' : S) (c d : ℕ) (m n : Membership P) → AreAlike a b

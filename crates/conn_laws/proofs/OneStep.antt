@@ -71,7 +71,7 @@ module _ {S P : Type 0} (call : S → SupplyCall P → S → Type 0) (AreAlike :
       let one = messages.acknowledged call AreAlike answers a a' b b' connected.session h.0 k.0 puback.packet_identifier puback.reason_code alike h.1 k.1 in
       (h.2 ∙ ap (with_session connected) one.0 ∙ sym k.2, h.3 ∙ sym k.3, one.1)
   answered (packets.Subscribe subscribe) a a' b b' number connected m n r u alike h k =
-      let one = shares.subscribed call AreAlike answers slot_of a a' b b' connected.terms connected.session.membership connected.session.subscription subscribe r u h.0 k.0 h.1 k.1 alike h.2 k.2 in
+      let one = shares.subscribed call AreAlike answers slot_of a a' b b' connected.session.membership connected.session.subscription subscribe r u h.0 k.0 h.1 k.1 alike h.2 k.2 in
       (h.3 ∙ (λ i. subscribing connected (one.1 i) (one.2 i)) ∙ sym k.3, one.0, one.3)
   answered (packets.Unsubscribe unsubscribe) a a' b b' number connected m n r u alike h k =
       let one = shares.unsubscribed call AreAlike answers slot_of a a' b b' connected.session.membership unsubscribe r u h.0 k.0 alike h.1 k.1 in

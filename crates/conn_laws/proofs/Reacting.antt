@@ -39,7 +39,6 @@ use Rattle.conn_engine.specs.declared.phase.Opening.{Opening}
 use Rattle.conn_engine.specs.declared.phase.ConnPhase.{ConnPhase}
 use Rattle.conn_engine.specs.declared.phase.ConnPhase.TheVariants.{Unconnected, Waiting, Connected, Ended}
 use Rattle.conn_engine.specs.Answering.{DisconnectsIf, Disconnects, Answers}
-use Rattle.conn_engine.specs.Connecting.{has_place}
 use Rattle.conn_engine.specs.Ending.{down}
 use Rattle.conn_engine.specs.Step.{hearing, IsParted, IsRefusedIf, WaitsForConnect, AnswersFirst, Concludes, AnswersPacket, AnswersTick, IsHeard, AnswersUnlessKicked, Reacts}
 use Rattle.conn_laws.specs.Calls.{settlement_of, hand_out_of, handed, MakesAll, Confirms, SettlesOne, SettlesNone}
@@ -49,6 +48,7 @@ use Rattle.conn_laws.proofs.Aside.{joins, all_of_both, none_in_both}
 use Rattle.conn_laws.proofs.Aside as asides
 use Rattle.conn_laws.proofs.Stepping.{none_before}
 use Rattle.conn_laws.proofs.Turning.{Apart, apart, apart_one, still, apart_behind, quiet_one, SessionStep, is_at, stays_out, attached, goes_on, handed_in, parted}
+use Rattle.conn_laws.specs.Places.{has_place}
 
 module _ {S P : Type 0} (call : S → SupplyCall P → S → Type 0) where
   -- what is acknowledged is settled, and nothing else is but these discards
@@ -205,7 +205,7 @@ module _ {S P : Type 0} (call : S → SupplyCall P → S → Type 0) where
     answered (packets.Subscribe subscribe) old new number now connected after reply is =
         inl (
           kept old new connected.session after _ is.3 refl refl
-              (apart call old new (asides.subscribed_as call slot_of (subscribe_refusal subscribe) old new connected.terms connected.session.membership connected.session.subscription subscribe reply is.0 is.1 is.2)),
+              (apart call old new (asides.subscribed_as call slot_of (subscribe_refusal subscribe) old new connected.session.membership connected.session.subscription subscribe reply is.0 is.1 is.2)),
           λ e f c. c,
         )
     answered (packets.Unsubscribe unsubscribe) old new number now connected after reply is =

@@ -1,5 +1,5 @@
 -- No reply is a PUBLISH, and so none brings a message for the first time.
-use Rattle.std.proofs.Common.{◌≡◌, ℕ, Bool, true, false, List, [], ◌++◌, Option, Some, None, Result, Ok, Err, refl, ap, ◌∙◌, nat_lt, not, ◌&&◌}
+use Rattle.std.proofs.Common.{◌≡◌, ℕ, Bool, true, false, List, [], ◌++◌, Option, Some, None, Result, Ok, Err, refl, ap, ◌∙◌, nat_lt}
 use Rattle.std.proofs.lemmas.List.Elements.{filter_map-append}
 use Rattle.std.specs.Option.{option_to_list}
 use Rattle.mqtt_packet.specs.declared.packet.Packet.{Packet}
@@ -17,7 +17,6 @@ use Rattle.conn_rules.specs.declared.connecting.FirstAnswer.{FirstAnswer}
 use Rattle.conn_rules.specs.declared.connecting.FirstAnswer.TheVariants as first
 use Rattle.conn_rules.specs.declared.publishing.PublishAnswer.{PublishAnswer}
 use Rattle.conn_rules.specs.declared.publishing.PublishAnswer.TheVariants as answers
-use Rattle.conn_rules.specs.declared.terms.Terms.{Terms}
 use Rattle.conn_rules.specs.Connecting.{first_answer}
 use Rattle.conn_rules.specs.Faults.{fault_refusal}
 use Rattle.conn_rules.specs.Publishing.{publish_answer}
@@ -37,7 +36,7 @@ use Rattle.conn_engine.specs.declared.phase.Opening.{Opening}
 use Rattle.conn_engine.specs.declared.phase.ConnPhase.{ConnPhase}
 use Rattle.conn_engine.specs.declared.phase.ConnPhase.TheVariants.{Unconnected, Waiting, Connected, Ended}
 use Rattle.conn_engine.specs.Answering.{DisconnectsIf, Disconnects, Answers}
-use Rattle.conn_engine.specs.Connecting.{has_place, most_ticks, IsRefused, Accepts, WaitsAs, ResumesAs, AttachedAs}
+use Rattle.conn_engine.specs.Connecting.{holds_big, most_ticks, IsRefused, Accepts, WaitsAs, ResumesAs, AttachedAs}
 use Rattle.conn_engine.specs.Step.{hearing, IsClosed, IsRefusedIf, WaitsForConnect, AnswersFirst, AnswersPacket, AnswersTick, AnswersUnlessKicked, IsHeard, Reacts}
 use Rattle.conn_laws.specs.Calls.{fresh_message, fresh_messages}
 use Rattle.conn_laws.specs.Marks.{publishes_in}
@@ -96,7 +95,7 @@ module _ {S P : Type 0} (call : S → SupplyCall P → S → Type 0) (slot_of : 
       → AttachedAs call old request ticks answer phase reply new → BringsNone reply
   attached (Ok (New session ended)) old new request ticks phase reply is = accepts phase reply request false session is.1
   attached (Ok (Resumed session)) old new request ticks phase reply is =
-      resumes (has_place session.membership && not request.terms.takes_all_packets) old new request session phase reply is
+      resumes (holds_big request.terms.maximum_packet_size session.window) old new request session phase reply is
   attached (Ok (Replace holder)) old new request ticks phase reply is = waits (nat_lt ticks most_ticks) phase reply request ticks is.0
   attached (Ok Busy) old new request ticks phase reply is = refuses phase reply _ is.0
   attached (Err errors.Full) old new request ticks phase reply is = refuses phase reply _ is.0
@@ -116,10 +115,10 @@ module _ {S P : Type 0} (call : S → SupplyCall P → S → Type 0) (slot_of : 
   published (answers.Refuse identifier code) old new number publish reply is = told reply _ is.0 refl
   published (answers.Offer identifier) old new number publish reply is = told reply _ is.replied refl
 
-  subscribed : (refusal : Option ℕ) (terms : Terms) (old new : S) (membership membership' : Membership P) (subscription subscription' : Option ℕ) (subscribe : Subscribe) (reply : Reply)
-      → SubscribesAs call slot_of refusal terms old membership subscription subscribe reply membership' subscription' new → BringsNone reply
-  subscribed (Some code) terms old new membership membership' subscription subscription' subscribe reply is = told reply _ is.0 refl
-  subscribed None terms old new membership membership' subscription subscription' subscribe reply is = told reply _ is.1 refl
+  subscribed : (refusal : Option ℕ) (old new : S) (membership membership' : Membership P) (subscription subscription' : Option ℕ) (subscribe : Subscribe) (reply : Reply)
+      → SubscribesAs call slot_of refusal old membership subscription subscribe reply membership' subscription' new → BringsNone reply
+  subscribed (Some code) old new membership membership' subscription subscription' subscribe reply is = told reply _ is.0 refl
+  subscribed None old new membership membership' subscription subscription' subscribe reply is = told reply _ is.1 refl
 
   unsubscribed : (refusal : Option ℕ) (old new : S) (membership membership' : Membership P) (unsubscribe : Unsubscribe) (reply : Reply)
       → UnsubscribesAs call slot_of refusal old membership unsubscribe reply membership' new → BringsNone reply
@@ -130,7 +129,7 @@ module _ {S P : Type 0} (call : S → SupplyCall P → S → Type 0) (slot_of : 
   answered (packets.Publish publish) old new number connected after reply is = published (publish_answer publish) old new number publish reply is.0
   answered (packets.Puback puback) old new number connected after reply is = told reply _ is.3 refl
   answered (packets.Subscribe subscribe) old new number connected after reply is =
-      subscribed (subscribe_refusal subscribe) connected.terms old new connected.session.membership is.0 connected.session.subscription is.1 subscribe reply is.2
+      subscribed (subscribe_refusal subscribe) old new connected.session.membership is.0 connected.session.subscription is.1 subscribe reply is.2
   answered (packets.Unsubscribe unsubscribe) old new number connected after reply is =
       unsubscribed (unsubscribe_refusal unsubscribe) old new connected.session.membership is.0 unsubscribe reply is.1
   answered packets.Pingreq old new number connected after reply is = told reply _ is.1 refl

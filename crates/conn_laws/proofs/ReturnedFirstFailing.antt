@@ -89,7 +89,7 @@ module _ {S P : Type 0} (call : S → SupplyCall P → S → Type 0) where
     failed_to_answer (packets.Publish publish) old new number now connected connected' fails = cut_short old new number publish fails.0
     failed_to_answer (packets.Subscribe subscribe) old new number now connected connected' fails =
         plain call old new
-        (some_answered call slot_of old new subscribe.subscriptions connected.terms connected.session.membership fails.0 fails.1)
+        (some_answered call slot_of old new subscribe.subscriptions connected.session.membership fails.0 fails.1)
     failed_to_answer (packets.Unsubscribe unsubscribe) old new number now connected connected' fails = none call old new fails.1
     failed_to_answer other old new number now connected connected' fails = absurd fails
 

@@ -1,5 +1,5 @@
 -- What a step sends: small packets, CONNACKs that assign an identifier, and messages that are handed on.
-use Rattle.std.proofs.Common.{◌≡◌, ℕ, suc, ◌≤◌, Bool, true, false, List, [], ◌∷◌, ◌++◌, length, Option, Some, None, Result, Ok, Err, refl, sym, ap, subst, ◌∙◌, arith, inl, inr, if◌then◌else◌, nat_lt, not, ◌&&◌, ltb-false}
+use Rattle.std.proofs.Common.{◌≡◌, ℕ, suc, ◌≤◌, Bool, true, false, List, [], ◌∷◌, ◌++◌, length, Option, Some, None, Result, Ok, Err, refl, sym, ap, subst, ◌∙◌, arith, inl, inr, if◌then◌else◌, nat_lt, ltb-false}
 use Rattle.std.specs.List.{AllByRecursion}
 use Rattle.std.specs.Option.{option_to_list}
 use Rattle.mqtt_packet.specs.Texts.{is_text}
@@ -24,7 +24,6 @@ use Rattle.conn_rules.specs.declared.connecting.FirstAnswer.{FirstAnswer}
 use Rattle.conn_rules.specs.declared.connecting.FirstAnswer.TheVariants as first
 use Rattle.conn_rules.specs.declared.publishing.PublishAnswer.{PublishAnswer}
 use Rattle.conn_rules.specs.declared.publishing.PublishAnswer.TheVariants as answers
-use Rattle.conn_rules.specs.declared.terms.Terms.{Terms}
 use Rattle.conn_rules.specs.Connecting.{first_answer}
 use Rattle.conn_rules.specs.Faults.{fault_refusal}
 use Rattle.conn_rules.specs.Packets.{accepting, refusing, puback, suback, unsuback, disconnect}
@@ -45,7 +44,7 @@ use Rattle.conn_engine.specs.declared.phase.Opening.{Opening}
 use Rattle.conn_engine.specs.declared.phase.ConnPhase.{ConnPhase}
 use Rattle.conn_engine.specs.declared.phase.ConnPhase.TheVariants.{Unconnected, Waiting, Connected, Ended}
 use Rattle.conn_engine.specs.Answering.{DisconnectsIf, Disconnects, Answers}
-use Rattle.conn_engine.specs.Connecting.{assigned, name_if, has_place, most_ticks, IsRefused, Accepts, WaitsAs, ResumesAs, AttachedAs}
+use Rattle.conn_engine.specs.Connecting.{assigned, name_if, holds_big, most_ticks, IsRefused, Accepts, WaitsAs, ResumesAs, AttachedAs}
 use Rattle.conn_engine.specs.Step.{hand_out_terms, hearing, IsClosed, IsRefusedIf, WaitsForConnect, AnswersFirst, AnswersPacket, AnswersTick, AnswersUnlessKicked, IsHeard, Reacts, Hands, Steps}
 use Rattle.conn_laws.specs.Sizes.{IsSmall, IsShort, HandsOn, IsAnswer, IsAnswerUnlessHandedOn, IsShortUnlessHandedOn}
 use Rattle.conn_laws.proofs.Replies as replies
@@ -183,7 +182,7 @@ module _ {S P : Type 0} (call : S → SupplyCall P → S → Type 0) (slot_of : 
       → AttachedAs call old request ticks answer phase reply new → IsBrief reply
   attached (Ok (New session ended)) old new request ticks phase reply is = accepts phase reply request false session is.1
   attached (Ok (Resumed session)) old new request ticks phase reply is =
-      resumes (has_place session.membership && not request.terms.takes_all_packets) old new request session phase reply is
+      resumes (holds_big request.terms.maximum_packet_size session.window) old new request session phase reply is
   attached (Ok (Replace holder)) old new request ticks phase reply is = waits (nat_lt ticks most_ticks) phase reply request ticks is.0
   attached (Ok Busy) old new request ticks phase reply is = refuses phase reply _ is.0
   attached (Err errors.Full) old new request ticks phase reply is = refuses phase reply _ is.0
@@ -205,11 +204,11 @@ module _ {S P : Type 0} (call : S → SupplyCall P → S → Type 0) (slot_of : 
   published (answers.Offer identifier) old new number publish reply is = told reply _ is.replied (one _ (acknowledged_is_small identifier _))
 
   -- there is a code for each entry
-  codes_for : (terms : Terms) (entries : List Subscription) (codes : List ℕ) (old new : S) (membership membership' : Membership P)
-      → AnswersEntries call slot_of terms old membership entries codes membership' new → length codes ≡ length entries
-  codes_for terms [] codes old new membership membership' is = ap length is.0
-  codes_for terms (entry ∷ entries) codes old new membership membership' is =
-      ap length is.6 ∙ ap suc (codes_for terms entries is.1 is.3 new is.2 membership' is.5)
+  codes_for : (entries : List Subscription) (codes : List ℕ) (old new : S) (membership membership' : Membership P)
+      → AnswersEntries call slot_of old membership entries codes membership' new → length codes ≡ length entries
+  codes_for [] codes old new membership membership' is = ap length is.0
+  codes_for (entry ∷ entries) codes old new membership membership' is =
+      ap length is.6 ∙ ap suc (codes_for entries is.1 is.3 new is.2 membership' is.5)
 
   codes_for_filters : (texts : List (List ℕ)) (codes : List ℕ) (old new : S) (membership membership' : Membership P)
       → LeavesByAll call slot_of old membership texts codes membership' new → length codes ≡ length texts
@@ -217,11 +216,11 @@ module _ {S P : Type 0} (call : S → SupplyCall P → S → Type 0) (slot_of : 
   codes_for_filters (text ∷ texts) codes old new membership membership' is =
       ap length is.6 ∙ ap suc (codes_for_filters texts is.1 is.3 new is.2 membership' is.5)
 
-  subscribed : (refusal : Option ℕ) (terms : Terms) (old new : S) (membership membership' : Membership P) (subscription subscription' : Option ℕ) (subscribe : Subscribe) (reply : Reply)
-      → subscribe_refusal subscribe ≡ refusal → SubscribesAs call slot_of refusal terms old membership subscription subscribe reply membership' subscription' new → IsBrief reply
-  subscribed (Some code) terms old new membership membership' subscription subscription' subscribe reply found is = closing reply _ code is.0 refl
-  subscribed None terms old new membership membership' subscription subscription' subscribe reply found is =
-      let few : length is.0 ≤ most_entries = omega (arith, few_subscriptions subscribe found, codes_for terms subscribe.subscriptions is.0 old new membership membership' is.2) in
+  subscribed : (refusal : Option ℕ) (old new : S) (membership membership' : Membership P) (subscription subscription' : Option ℕ) (subscribe : Subscribe) (reply : Reply)
+      → subscribe_refusal subscribe ≡ refusal → SubscribesAs call slot_of refusal old membership subscription subscribe reply membership' subscription' new → IsBrief reply
+  subscribed (Some code) old new membership membership' subscription subscription' subscribe reply found is = closing reply _ code is.0 refl
+  subscribed None old new membership membership' subscription subscription' subscribe reply found is =
+      let few : length is.0 ≤ most_entries = omega (arith, few_subscriptions subscribe found, codes_for subscribe.subscriptions is.0 old new membership membership' is.2) in
       told reply _ is.1 (one _ (subscribed_is_small subscribe.packet_identifier is.0 few))
 
   unsubscribed : (refusal : Option ℕ) (old new : S) (membership membership' : Membership P) (unsubscribe : Unsubscribe) (reply : Reply)
@@ -235,7 +234,7 @@ module _ {S P : Type 0} (call : S → SupplyCall P → S → Type 0) (slot_of : 
   answered (packets.Publish publish) old new number connected after reply is = published (publish_answer publish) old new number publish reply is.0
   answered (packets.Puback puback) old new number connected after reply is = told reply _ is.3 tt
   answered (packets.Subscribe subscribe) old new number connected after reply is =
-      subscribed (subscribe_refusal subscribe) connected.terms old new connected.session.membership is.0 connected.session.subscription is.1 subscribe reply refl is.2
+      subscribed (subscribe_refusal subscribe) old new connected.session.membership is.0 connected.session.subscription is.1 subscribe reply refl is.2
   answered (packets.Unsubscribe unsubscribe) old new number connected after reply is =
       unsubscribed (unsubscribe_refusal unsubscribe) old new connected.session.membership is.0 unsubscribe reply refl is.1
   answered packets.Pingreq old new number connected after reply is = told reply _ is.1 (one _ answered_is_small)

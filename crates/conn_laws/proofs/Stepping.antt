@@ -39,8 +39,7 @@ use Rattle.conn_engine.specs.declared.phase.Opening.{Opening}
 use Rattle.conn_engine.specs.declared.phase.ConnPhase.{ConnPhase}
 use Rattle.conn_engine.specs.declared.phase.ConnPhase.TheVariants.{Unconnected, Waiting, Connected, Ended}
 use Rattle.conn_engine.specs.Answering.{DisconnectsIf, Disconnects, Answers}
-use Rattle.conn_engine.specs.Connecting.{has_place}
-use Rattle.conn_laws.specs.Places.{own_places, IsMemberWith, KeepsPlaces, KeepsInTurn}
+use Rattle.conn_laws.specs.Places.{has_place, own_places, IsMemberWith, KeepsPlaces, KeepsInTurn}
 use Rattle.conn_laws.specs.Calls.{offer_of, match_of, settlement_of, hand_out_of, offered, matched, settled, handed, Outcome, hand_outs_of, sent_of, discards_of, AreSentIfFit, messages_of, fresh_messages, IsToBeOffered, Brings, Confirms, OffersToEach, OffersNone, SettlesOne, SettlesNone, AsksForMessage, HandsOutLast, MakesAll, StepCalls}
 use Rattle.conn_supply.specs.Publishing.{Offers, AnswersPublish}
 use Rattle.conn_engine.specs.Step.{hearing, hand_out_terms, IsRefusedIf, WaitsForConnect, AnswersFirst, Concludes, AnswersPacket, AnswersTick, IsHeard, IsKicked, AnswersUnlessKicked, Reacts, Hands, Steps}
@@ -297,7 +296,7 @@ module _ {S P : Type 0} (call : S → SupplyCall P → S → Type 0) where
     answered (packets.Subscribe subscribe) old new number now connected after reply answers =
         idle old new number (Connected connected) _ reply.next
         (becomes call (alike after _ answers.3)
-        (subscribed_as call slot_of (subscribe_refusal subscribe) old new connected.terms connected.session.membership connected.session.subscription subscribe reply answers.0 answers.1 answers.2))
+        (subscribed_as call slot_of (subscribe_refusal subscribe) old new connected.session.membership connected.session.subscription subscribe reply answers.0 answers.1 answers.2))
         (λ p b. b, λ e f c. c)
     answered (packets.Unsubscribe unsubscribe) old new number now connected after reply answers =
         idle old new number (Connected connected) _ reply.next

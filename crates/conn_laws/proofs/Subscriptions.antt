@@ -47,7 +47,7 @@ module _ {S P : Type 0} (call : S → SupplyCall P → S → Type 0) (slot_of : 
 
   -- a SUBSCRIBE closes the connection, or its codes tell
   subscribed : (refused : Option ℕ) (old new : S) (connected connected' : ConnectedClient P) (membership : Membership P) (subscription : Option ℕ) (subscribe : Subscribe) (reply : Reply)
-      → SubscribesAs call slot_of refused connected.terms old connected.session.membership connected.session.subscription subscribe reply membership subscription new
+      → SubscribesAs call slot_of refused old connected.session.membership connected.session.subscription subscribe reply membership subscription new
       → connected' ≡ subscribing connected membership subscription
       → IdentifiesBy (Some subscribe) (option_to_list reply.packet) connected.session.subscription connected'.session.subscription ⊎ (reply.next ≡ Close)
   subscribed (Some code) old new connected connected' membership subscription subscribe reply does is = inr (ap (λ (r : Reply). r.next) does.0)

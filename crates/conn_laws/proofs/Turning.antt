@@ -1,5 +1,5 @@
 -- What becomes of the session of a connection before anything is handed out: the calls of each kind, and the marks that they add.
-use Rattle.std.proofs.Common.{◌≡◌, ℕ, nat_lt, not, ◌&&◌, Bool, true, false, List, [], ◌∷◌, ◌++◌, filter_map, Option, Some, None, Result, Ok, Err, refl, sym, ap, subst, inl, inr}
+use Rattle.std.proofs.Common.{◌≡◌, ℕ, nat_lt, Bool, true, false, List, [], ◌∷◌, ◌++◌, filter_map, Option, Some, None, Result, Ok, Err, refl, sym, ap, subst, inl, inr}
 use Rattle.std.specs.List.{AllByRecursion}
 use Rattle.group_jobs.specs.declared.fate.Fate.{Fate}
 use Rattle.group_jobs.specs.Stamps.{Held}
@@ -17,7 +17,7 @@ use Rattle.conn_supply.specs.SupplyCalls.SupplyCall.{ParkAsIs}
 use Rattle.conn_engine.specs.declared.phase.ConnectRequest.{ConnectRequest}
 use Rattle.conn_engine.specs.declared.phase.ConnectedClient.{ConnectedClient}
 use Rattle.conn_engine.specs.declared.phase.ConnPhase.{ConnPhase}
-use Rattle.conn_engine.specs.Connecting.{has_place, most_ticks, Accepts, WaitsAs, ResumesAs, AttachedAs, Attaches}
+use Rattle.conn_engine.specs.Connecting.{holds_big, most_ticks, Accepts, WaitsAs, ResumesAs, AttachedAs, Attaches}
 use Rattle.conn_engine.specs.Ending.{down, Parts}
 use Rattle.conn_laws.specs.Calls.{settlement_of, hand_out_of, settled, handed, MakesAll}
 use Rattle.conn_laws.specs.Marks.{publishes_of, fresh_of, acknowledged_of}
@@ -171,7 +171,7 @@ module _ {S P : Type 0} (call : S → SupplyCall P → S → Type 0) where
   attached_as (Ok (New session ended)) old mid behind new number request ticks phase reply asked is later =
       begins old mid new number _ request false session phase reply asked refl is.1 (apart_behind mid behind new (apart mid behind (asides.retired_earlier call ended mid behind is.0)) later)
   attached_as (Ok (Resumed session)) old mid behind new number request ticks phase reply asked is later =
-      resumed_as (has_place session.membership && not request.terms.takes_all_packets) old mid behind new number request session phase reply asked is later
+      resumed_as (holds_big request.terms.maximum_packet_size session.window) old mid behind new number request session phase reply asked is later
   attached_as (Ok (Replace holder)) old mid behind new number request ticks phase reply asked is later =
       waits_as (nat_lt ticks most_ticks) old new number request ticks phase reply is.0 (in_vain old mid new number _ asked refl (apart_behind mid behind new (still mid behind is.1) later))
   attached_as (Ok Busy) old mid behind new number request ticks phase reply asked is later =

@@ -23,9 +23,8 @@ use Rattle.conn_engine.specs.declared.input.Input.{Input}
 use Rattle.conn_engine.specs.declared.input.Input.TheVariants as inputs
 use Rattle.conn_engine.specs.declared.phase.ConnPhase.{ConnPhase}
 use Rattle.conn_engine.specs.declared.phase.ConnPhase.TheVariants.{Unconnected, Waiting, Connected, Ended}
-use Rattle.conn_engine.specs.Connecting.{has_place}
 use Rattle.conn_engine.specs.Step.{hand_out_terms}
-use Rattle.conn_laws.specs.Places.{own_places, IsMemberWith, KeepsPlaces, KeepsInTurn}
+use Rattle.conn_laws.specs.Places.{has_place, own_places, IsMemberWith, KeepsPlaces, KeepsInTurn}
 
 -- what a call offers: to the group of which slot, from which connection, and which message
 abbrev pub offer_of : {P : Type 0} → SupplyCall P → Option (ℕ × ℕ × Message)

@@ -1,11 +1,18 @@
 -- The places that a connection has: what its calls bring it, and what they take from it.
-use Rattle.std.specs.Prelude.{◌≡◌, ℕ, ◌+◌, List, [], ◌∷◌, ◌++◌, sum_by}
+use Rattle.std.specs.Prelude.{◌≡◌, ℕ, ◌+◌, Bool, true, false, List, [], ◌∷◌, ◌++◌, sum_by}
 use Rattle.session_desk.specs.Everything.{free_in, place_in, place_of, places_given}
-use Rattle.session_desk.specs.declared.session.Membership.TheVariants.{Member}
+use Rattle.session_desk.specs.declared.session.Membership.{Membership}
+use Rattle.session_desk.specs.declared.session.Membership.TheVariants.{NotMember, Member, Leaving}
 use Rattle.conn_supply.specs.SupplyCalls.{SupplyCall}
 use Rattle.conn_supply.specs.SupplyCalls.SupplyCall.{Attach, Park, ParkAsIs, Keep, Bury, Sweep, LendPlace, TakePlace, Take, TakeBack, Settle, GiveBack}
 use Rattle.conn_engine.specs.declared.phase.ConnPhase.{ConnPhase}
 use Rattle.conn_engine.specs.declared.phase.ConnPhase.TheVariants.{Unconnected, Waiting, Connected, Ended}
+
+-- a session has a place in a group
+abbrev pub has_place : {P : Type 0} → Membership P → Bool
+has_place NotMember = false
+has_place (Member place) = true
+has_place (Leaving place) = true
 
 module _ {P : Type 0} where
   -- the place of the session that a connection has, where that is a member's, or that of one who leaves

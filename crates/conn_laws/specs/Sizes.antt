@@ -21,6 +21,10 @@ most_bytes = 65556
 abbrev pub IsShort : Packet → Type 0
 IsShort packet = length (written packet) ≤ most_bytes
 
+-- the most bytes of a PUBLISH that hands a message on: those of the longest that is read, and of a Subscription Identifier (3.3.2.3.8)
+abbrev pub most_publish_bytes : ℕ
+most_publish_bytes = 65542
+
 -- a message that is short in each PUBLISH in which it is handed on, under whatever Subscription Identifier
 abbrev pub IsLight : Message → Type 0
 IsLight message = (dup : Bool) (subscription : Option ℕ) (identifier : ℕ) → IsShort (job dup message subscription identifier)

@@ -1,6 +1,5 @@
 //! The laws of how long packets are: of single packets, and of every step over every supply.
 ghost use Rattle.std.specs.Prelude.{◌≡◌, ◌≢◌, ◌+◌, ◌≤◌, ℕ, Bool, List, length, Option, Some, None};
-ghost use Rattle.conn_rules.specs.Connecting.{most_publish_bytes};
 ghost use Rattle.std.specs.List.{AllByRecursion};
 ghost use Rattle.mqtt_packet.specs.declared.packet.ConnectRefusal.{ConnectRefusal};
 ghost use Rattle.mqtt_packet.specs.declared.packet.Delivery.TheVariants.{AtMostOnce};
@@ -18,15 +17,14 @@ ghost use Rattle.conn_supply.specs.declared.reply.Then.{Then};
 ghost use Rattle.conn_engine.specs.declared.input.Input.{Input};
 ghost use Rattle.conn_engine.specs.declared.phase.ConnPhase.{ConnPhase};
 ghost use Rattle.conn_engine.specs.Step.{Steps};
-ghost use Rattle.conn_laws.specs.Sizes.{IsSmall, IsShort, IsLight, IsAnswerUnlessHandedOn, IsShortUnlessHandedOn};
+ghost use Rattle.conn_laws.specs.Sizes.{IsSmall, IsShort, IsLight, IsAnswerUnlessHandedOn, IsShortUnlessHandedOn, most_publish_bytes};
 
 use conn_supply::{HoldingPlace, Supply};
 
 /// **A message is handed on in no more bytes than it came in, and those of a Subscription Identifier** (section 3.3): a PUBLISH that was read
 /// has at most 65,536 bytes in all, and what goes on of it is its topic, its payload, and those of its properties that go with a message
 /// (3.3.2.3). Where it came with a Packet Identifier, the PUBLISH that hands it on without a Subscription Identifier is no longer than the one
-/// that brought it (`no_longer`), and with one it has at most 65,542 bytes, which each client takes that is a member (`taken`, section
-/// 3.1.2.11.4); and in any case it is short (`light`).
+/// that brought it (`no_longer`), and with one it has at most 65,542 bytes (`taken`); and in any case it is short (`light`).
 pub fn forwarded_law()
     ensures no_longer { (publish : Publish) (bytes : List ℕ) (dup : Bool) (identifier : ℕ) →
         Spells (packets.Publish publish) bytes → publish.delivery ≢ AtMostOnce →

@@ -1,5 +1,5 @@
 -- What a client asks for when it connects, and the answer to the first packet (sections 3.1 and 3.2).
-use Rattle.std.specs.Prelude.{ℕ, ◌==◌, ◌&&◌, nat_lt, min, Bool, true, false, not, if◌then◌else◌, length, Option, Some, None, is_some}
+use Rattle.std.specs.Prelude.{ℕ, ◌==◌, ◌&&◌, nat_lt, min, Bool, true, false, if◌then◌else◌, length, Option, Some, None, is_some}
 use Rattle.mqtt_packet.specs.declared.offer.Offer.{Offer}
 use Rattle.mqtt_packet.specs.declared.packet.QoS.TheVariants.{AtLeastOnce}
 use Rattle.mqtt_packet.specs.declared.packet.Connect.{Connect}
@@ -20,17 +20,13 @@ abbrev pub or_else : ℕ → Option ℕ → ℕ
 or_else absent None = absent
 or_else absent (Some number) = number
 
--- the most bytes of a PUBLISH that hands a message on: those of the longest that is read, and of a Subscription Identifier (3.3.2.3.8)
-abbrev pub most_publish_bytes : ℕ
-most_publish_bytes = 65542
-
 -- 3.1.2.10 and 3.1.2.11: what a client asked for; its Receive Maximum is no more than the broker's limit (profile)
 abbrev pub terms_of : ℕ → Connect → Terms
 terms_of max_inflight c = record {
   receive_maximum = min max_inflight (or_else 65535 c.properties.receive_maximum);
   session_expiry_interval = or_else 0 c.properties.session_expiry_interval;
   keep_alive = c.keep_alive;
-  takes_all_packets = not (is_under most_publish_bytes c.properties.maximum_packet_size);
+  maximum_packet_size = c.properties.maximum_packet_size;
 }
 
 -- 3.14.2.2.2: a session that ends with its connection may not be given an expiry at the end

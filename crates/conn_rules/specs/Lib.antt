@@ -6,3 +6,4 @@ pub mod Faults
 pub mod HandOuts
 pub mod KeepAlive
 pub mod Packets
+pub mod Setups

@@ -11,7 +11,6 @@ use Rattle.mqtt_topic.specs.declared.error.TopicError.TheVariants.{NotShared}
 use Rattle.mqtt_topic.specs.Names.{Share, share_of, filter_of}
 use Rattle.conn_rules.specs.declared.subscribing.EntryAnswer.{EntryAnswer}
 use Rattle.conn_rules.specs.declared.subscribing.EntryAnswer.TheVariants.{Refuse, Join}
-use Rattle.conn_rules.specs.declared.terms.Terms.{Terms}
 
 -- how many entries there are at most (profile)
 abbrev pub most_entries : ℕ
@@ -53,8 +52,6 @@ share_answer true (Ok share) text = Join share
 share_answer false (Ok share) text = Refuse 0x83
 share_answer served (Err refusal) text = Refuse (refused_code refusal text)
 
--- An entry, of several refusals the first: a text that is no filter and no share (8F), a filter that is not shared and QoS 0 (83,
--- profile), and a client that does not take every packet (83; profile, for now)
-abbrev pub entry_answer : Subscription → Terms → EntryAnswer
-entry_answer entry terms =
-    share_answer (asks_acknowledged entry.options.maximum_qos && terms.takes_all_packets) (share_of entry.filter) entry.filter
+-- an entry, of several refusals the first: a text that is no filter and no share (8F), a filter that is not shared and QoS 0 (83, profile)
+abbrev pub entry_answer : Subscription → EntryAnswer
+entry_answer entry = share_answer (asks_acknowledged entry.options.maximum_qos) (share_of entry.filter) entry.filter

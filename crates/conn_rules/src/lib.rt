@@ -27,6 +27,6 @@ pub use hand_outs::{HandOutTerms, is_big, is_discarded};
 pub use keep_alive::{CONNECT_TIMEOUT, is_late, is_overdue, longest_silence};
 pub use packets::{accepting, disconnect, job, message_of, puback, refusing, suback, unsuback};
 pub use publishing::{PublishAnswer, answer_to_publish, closing_code, puback_code};
-pub use setup::Setup;
+pub use setup::{QueueCapacity, Setup};
 pub use subscribing::{EntryAnswer, answer_to_entry, subscribe_refusal, unsubscribe_refusal};
 pub use terms::{MaxInflight, Terms, terms_of};

@@ -4,7 +4,6 @@ ghost use Rattle.std.specs.List.{list_any, starts_with};
 ghost use Rattle.mqtt_topic.specs.Names.{share_of};
 ghost use Rattle.conn_rules.specs.Subscribing.{subscribe_refusal, unsubscribe_refusal, is_local_share, entry_answer, share_answer, refused_code};
 
-use crate::terms::Terms;
 use mqtt_packet::{QoS, ReasonCode, Subscribe, Subscription, Text, Unsubscribe};
 use mqtt_topic::{Filter, RefusedText, Share, TopicError};
 
@@ -57,12 +56,12 @@ pub fn unsubscribe_refusal(unsubscribe: &Unsubscribe) -> Option<ReasonCode>
     }
 }
 
-/// What becomes of an entry of a SUBSCRIBE of a client of these terms.
-pub fn answer_to_entry(entry: Subscription, terms: &Terms) -> EntryAnswer
-    ensures { result ≡ entry_answer entry terms.now }
+/// What becomes of an entry of a SUBSCRIBE.
+pub fn answer_to_entry(entry: Subscription) -> EntryAnswer
+    ensures { result ≡ entry_answer entry }
 {
     let Subscription { filter, options } = entry;
-    let is_served = !matches!(options.maximum_qos, QoS::AtMostOnce) && terms.takes_all_packets;
+    let is_served = !matches!(options.maximum_qos, QoS::AtMostOnce);
     share_answer(is_served, filter)
 }
 

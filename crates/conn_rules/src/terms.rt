@@ -5,10 +5,6 @@ ghost use Rattle.conn_rules.specs.Connecting.{is_under, terms_of, is_given_expir
 use mqtt_packet::{Connect, MaximumPacketSize};
 use std::marker::Model;
 
-/// The most bytes of a PUBLISH that hands a message on: those of the longest that is read, 65,536, and five of a Subscription Identifier
-/// (section 3.3.2.3.8), which may make the length of the properties a byte longer.
-const MOST_PUBLISH_BYTES: u32 = 65_542;
-
 /// How many PUBLISH packets the broker sends a client at most that it has not acknowledged, whatever its Receive Maximum: 1 to 256 (profile).
 #[derive(Clone, Copy, Debug, PartialEq, Eq)]
 pub struct MaxInflight {
@@ -64,8 +60,8 @@ pub struct Terms {
     pub session_expiry_interval: u32,
     /// Seconds; 0 turns the keep alive off (section 3.1.2.10).
     pub keep_alive: u16,
-    /// It takes the longest PUBLISH that is handed on, of 65,542 bytes, too (section 3.1.2.11.4).
-    pub takes_all_packets: bool,
+    /// The most bytes of a packet that it takes, if it named them: from 64 on (section 3.1.2.11.4).
+    pub maximum_packet_size: Option<MaximumPacketSize>,
 }
 
 impl Terms {
@@ -91,7 +87,7 @@ pub fn terms_of(max_inflight: MaxInflight, connect: &Connect) -> Terms
         receive_maximum: max_inflight.get().min(asked),
         session_expiry_interval: properties.session_expiry_interval.unwrap_or(0),
         keep_alive: connect.keep_alive,
-        takes_all_packets: !is_size_under(MOST_PUBLISH_BYTES, properties.maximum_packet_size),
+        maximum_packet_size: properties.maximum_packet_size,
     }
 }
 

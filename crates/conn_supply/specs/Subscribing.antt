@@ -1,5 +1,5 @@
 -- What a connection answers to a SUBSCRIBE and to an UNSUBSCRIBE, and whom it asks (sections 3.8 to 3.11).
-use Rattle.std.specs.Prelude.{◌≡◌, ◌≢◌, ℕ, Bool, List, [], ◌∷◌, Option, Some, None, Result, Ok, Err, ◌⊎◌, ◌==◌, if◌then◌else◌}
+use Rattle.std.specs.Prelude.{◌≡◌, ◌≢◌, ℕ, List, [], ◌∷◌, Option, Some, None, Result, Ok, Err, ◌⊎◌, ◌==◌, if◌then◌else◌}
 use Rattle.std.specs.List.{list_any}
 use Rattle.mqtt_packet.specs.declared.packet.Subscribe.{Subscribe}
 use Rattle.mqtt_packet.specs.declared.packet.Subscription.{Subscription}
@@ -8,7 +8,6 @@ use Rattle.mqtt_topic.specs.declared.error.TopicError.{TopicError}
 use Rattle.mqtt_topic.specs.Names.{Share, share_of}
 use Rattle.conn_rules.specs.declared.subscribing.EntryAnswer.{EntryAnswer}
 use Rattle.conn_rules.specs.declared.subscribing.EntryAnswer.TheVariants as answers
-use Rattle.conn_rules.specs.declared.terms.Terms.{Terms}
 use Rattle.conn_rules.specs.Subscribing.{entry_answer, subscribe_refusal, unsubscribe_refusal}
 use Rattle.conn_rules.specs.Packets.{suback, unsuback}
 use Rattle.session_desk.specs.declared.session.Membership.{Membership}
@@ -58,39 +57,39 @@ module _ {S P : Type 0} (call : S → SupplyCall P → S → Type 0) (slot_of : 
   IsUnbound old membership membership' new = (share : Share) × call old (Bind share (Err refusal.Memory)) new × (membership' ≡ membership)
 
   -- the entries of a SUBSCRIBE, in their order: each sees what the earlier ones did
-  abbrev pub AnswersEntries : Terms → S → Membership P → List Subscription → List ℕ → Membership P → S → Type 0
-  AnswersEntries terms old membership [] codes membership' new = (codes ≡ []) × (membership' ≡ membership) × (new ≡ old)
-  AnswersEntries terms old membership (entry ∷ entries) codes membership' new =
+  abbrev pub AnswersEntries : S → Membership P → List Subscription → List ℕ → Membership P → S → Type 0
+  AnswersEntries old membership [] codes membership' new = (codes ≡ []) × (membership' ≡ membership) × (new ≡ old)
+  AnswersEntries old membership (entry ∷ entries) codes membership' new =
       (code : ℕ) × (rest : List ℕ) × (between : Membership P) × (mid : S)
-      × AnswersEntry old membership (entry_answer entry terms) code between mid
-      × AnswersEntries terms mid between entries rest membership' new × (codes ≡ code ∷ rest)
+      × AnswersEntry old membership (entry_answer entry) code between mid
+      × AnswersEntries mid between entries rest membership' new × (codes ≡ code ∷ rest)
 
   -- some of the entries were answered, from the first on, at least one; or there was no memory for the first
-  abbrev pub AnswersFirst : Terms → S → Membership P → List Subscription → Membership P → S → Type 0
-  AnswersFirst terms old membership [] membership' new = ⊥
-  AnswersFirst terms old membership (entry ∷ entries) membership' new =
+  abbrev pub AnswersFirst : S → Membership P → List Subscription → Membership P → S → Type 0
+  AnswersFirst old membership [] membership' new = ⊥
+  AnswersFirst old membership (entry ∷ entries) membership' new =
       IsUnbound old membership membership' new
       ⊎ ((code : ℕ) × (between : Membership P) × (mid : S)
-      × AnswersEntry old membership (entry_answer entry terms) code between mid
-      × AnswersFirst terms mid between entries membership' new)
+      × AnswersEntry old membership (entry_answer entry) code between mid
+      × AnswersFirst mid between entries membership' new)
 
   -- where an allocation failed, some of the entries were answered, from the first on, or none
-  abbrev pub AnswersSome : Terms → S → Membership P → List Subscription → Membership P → S → Type 0
-  AnswersSome terms old membership entries membership' new =
-      ((membership' ≡ membership) × (new ≡ old)) ⊎ AnswersFirst terms old membership entries membership' new
+  abbrev pub AnswersSome : S → Membership P → List Subscription → Membership P → S → Type 0
+  AnswersSome old membership entries membership' new =
+      ((membership' ≡ membership) × (new ≡ old)) ⊎ AnswersFirst old membership entries membership' new
 
   -- a SUBSCRIBE closes the connection, or is answered by a SUBACK with a code for each entry
-  abbrev pub SubscribesAs : Option ℕ → Terms → S → Membership P → Option ℕ → Subscribe → Reply → Membership P → Option ℕ → S → Type 0
-  SubscribesAs (Some code) terms old membership subscription subscribe reply membership' subscription' new =
+  abbrev pub SubscribesAs : Option ℕ → S → Membership P → Option ℕ → Subscribe → Reply → Membership P → Option ℕ → S → Type 0
+  SubscribesAs (Some code) old membership subscription subscribe reply membership' subscription' new =
       (reply ≡ closing_with code) × (membership' ≡ membership) × (subscription' ≡ subscription) × (new ≡ old)
-  SubscribesAs None terms old membership subscription subscribe reply membership' subscription' new =
+  SubscribesAs None old membership subscription subscribe reply membership' subscription' new =
       (codes : List ℕ) × (reply ≡ going_on (Some (suback subscribe.packet_identifier codes)))
-      × AnswersEntries terms old membership subscribe.subscriptions codes membership' new
+      × AnswersEntries old membership subscribe.subscriptions codes membership' new
       × (subscription' ≡ subscription_after codes subscribe.properties.subscription_identifier subscription)
 
-  abbrev pub Subscribes : Terms → S → Membership P → Option ℕ → Subscribe → Reply → Membership P → Option ℕ → S → Type 0
-  Subscribes terms old membership subscription subscribe reply membership' subscription' new =
-      SubscribesAs (subscribe_refusal subscribe) terms old membership subscription subscribe reply membership' subscription' new
+  abbrev pub Subscribes : S → Membership P → Option ℕ → Subscribe → Reply → Membership P → Option ℕ → S → Type 0
+  Subscribes old membership subscription subscribe reply membership' subscription' new =
+      SubscribesAs (subscribe_refusal subscribe) old membership subscription subscribe reply membership' subscription' new
 
   -- a member leaves by the very text of its share
   abbrev pub LeavesFrom : P → Option ℕ → ℕ → Membership P → Type 0

@@ -13,7 +13,7 @@ ghost use Rattle.std.specs.Vec.Iter.{into_iter_items, into_iter_len};
 use crate::reply::Reply;
 use crate::supply::{BindRefusal, HoldingPlace, NoMemory, Supply};
 use conn_rules::{
-    EntryAnswer, Terms, answer_to_entry, suback, subscribe_refusal, unsuback, unsubscribe_refusal,
+    EntryAnswer, answer_to_entry, suback, subscribe_refusal, unsuback, unsubscribe_refusal,
 };
 use mqtt_packet::{
     NonEmpty, PacketIdentifier, ReasonCode, Subscribe, Subscription, SubscriptionIdentifier, Text,
@@ -35,12 +35,11 @@ pub fn subscribe<P: HoldingPlace, S: Supply<P>>(
     alloc: Global,
     membership: Membership<P>,
     subscription: &mut Option<SubscriptionIdentifier>,
-    terms: &Terms,
     subscribe: Subscribe,
 ) -> (Membership<P>, Result<Reply, NoMemory>)
     ensures answered { MatchResult result.1
-        (λ reply. Subscribes S.call P.slot_of terms.now supply.old membership subscription.old subscribe reply result.0 subscription.new supply.new)
-        (λ _. AnswersSome S.call P.slot_of terms.now supply.old membership subscribe.subscriptions result.0 supply.new × (subscription.new ≡ subscription.old)) }
+        (λ reply. Subscribes S.call P.slot_of supply.old membership subscription.old subscribe reply result.0 subscription.new supply.new)
+        (λ _. AnswersSome S.call P.slot_of supply.old membership subscribe.subscriptions result.0 supply.new × (subscription.new ≡ subscription.old)) }
     ensures out { StayOut P.has_out membership result.0 }
     ensures visiting { S.visiting supply.new ≡ S.visiting supply.old }
 {
@@ -57,7 +56,7 @@ pub fn subscribe<P: HoldingPlace, S: Supply<P>>(
     let Ok(mut codes) = Vec::with_capacity(alloc, entries.len()) else {
         return (membership, Err(NoMemory));
     };
-    match answer_entries(supply, membership, terms, entries.into_iter(), &mut codes) {
+    match answer_entries(supply, membership, entries.into_iter(), &mut codes) {
         (membership, Ok(())) => {
             let reply = granted(subscription, asked, packet_identifier, codes);
             (membership, Ok(reply))
@@ -97,26 +96,25 @@ fn granted(
 fn answer_entries<P: HoldingPlace, S: Supply<P>>(
     supply: &mut S,
     membership: Membership<P>,
-    terms: &Terms,
     mut entries: IntoIter<Subscription>,
     codes: &mut Vec<ReasonCode>,
 ) -> (Membership<P>, Result<(), NoMemory>)
     requires room { vec_len codes.old + into_iter_len entries ≤ vec_capacity codes.old }
     requires counted { length (into_iter_items entries) ≡ into_iter_len entries }
     ensures answered { MatchResult result.1
-        (λ _. (rest : List ℕ) × AnswersEntries S.call P.slot_of terms.now supply.old membership (into_iter_items entries) rest result.0 supply.new
+        (λ _. (rest : List ℕ) × AnswersEntries S.call P.slot_of supply.old membership (into_iter_items entries) rest result.0 supply.new
         × (codes.new.items ≡ codes.old.items ++ rest) × (length rest ≡ into_iter_len entries))
-        (λ _. AnswersFirst S.call P.slot_of terms.now supply.old membership (into_iter_items entries) result.0 supply.new) }
+        (λ _. AnswersFirst S.call P.slot_of supply.old membership (into_iter_items entries) result.0 supply.new) }
     ensures out { StayOut P.has_out membership result.0 }
     ensures visiting { S.visiting supply.new ≡ S.visiting supply.old }
 {
     let Some(entry) = entries.next() else {
         return (membership, Ok(()));
     };
-    match answer_entry(supply, membership, answer_to_entry(entry, terms)) {
+    match answer_entry(supply, membership, answer_to_entry(entry)) {
         (membership, Ok(code)) => {
             codes.push_reserved(code);
-            answer_entries(supply, membership, terms, entries, codes)
+            answer_entries(supply, membership, entries, codes)
         }
         (membership, Err(NoMemory)) => (membership, Err(NoMemory)),
     }

@@ -1,6 +1,6 @@
 //! Servers, and what is written for the input that they are given.
 use bytes::Bytes;
-use conn_rules::{MaxInflight, Setup};
+use conn_rules::{MaxInflight, QueueCapacity, Setup};
 use drive::drive_lines;
 use mqtt_packet::Text;
 use mqtt_topic::{Routes, Share};
@@ -11,7 +11,7 @@ use std::process::Abort;
 use text_io::RunError;
 
 /// A server in each of whose groups so many messages may wait, and on which these shares are bound.
-pub fn setup(rt: &impl Abort, alloc: Global, capacity: usize, shares: &[&str]) -> Setup {
+pub fn setup(rt: &impl Abort, alloc: Global, capacity: u32, shares: &[&str]) -> Setup {
     limited(rt, alloc, capacity, MaxInflight::most(), shares)
 }
 
@@ -19,7 +19,7 @@ pub fn setup(rt: &impl Abort, alloc: Global, capacity: usize, shares: &[&str]) -
 pub fn limited(
     rt: &impl Abort,
     alloc: Global,
-    capacity: usize,
+    capacity: u32,
     max_inflight: MaxInflight,
     shares: &[&str],
 ) -> Setup {
@@ -34,16 +34,24 @@ pub fn limited(
         let _slot = groups.bind(share).ok().expect(rt, "a slot");
     }
     Setup {
-        capacity,
+        capacity: capacity_of(rt, capacity),
         max_inflight,
         groups,
     }
 }
 
+/// A queue in which so many messages may wait.
+fn capacity_of(rt: &impl Abort, messages: u32) -> QueueCapacity {
+    QueueCapacity::new(messages).expect(rt, "a capacity")
+}
+
 /// A server in each of whose groups 1,024 messages may wait, and on which no share is bound.
 pub fn plain(alloc: Global) -> Setup {
+    let Some(capacity) = QueueCapacity::new(1_024) else {
+        unreachable!()
+    };
     Setup {
-        capacity: 1_024,
+        capacity,
         max_inflight: MaxInflight::most(),
         groups: Routes::new(alloc),
     }

@@ -243,9 +243,13 @@ client_of_small_packets
 101400044D5154540502003C05270000004000027731
 > 200c000009240125002700010000
 8212000100000C2473686172652F672F6A6F6201
-> 900400010083
-320900036A6F6200070041
-> 4003000710
+> 900400010001
+323F00036A6F620007004B4B4B4B4B4B4B4B4B4B4B4B4B4B4B4B4B4B4B4B4B4B4B4B4B4B4B4B4B4B4B4B4B4B4B4B4B4B4B4B4B4B4B4B4B4B4B4B4B4B4B4B4B4B4B
+> 40020007
+320900036A6F6200080041
+> 40020008
+> 320900036a6f6200010041
+> $share/g/job accepted 2 acknowledged 0 refused 0 held 0 queued 0 returned 1 discarded 1
 
 message_expiry_refused
 100F00044D5154540502003C0000027731
@@ -303,13 +307,7 @@ fn compare(rt: &impl Abort, alloc: Global, setup: Setup, input: &[u8], run: &str
 }
 
 /// Compares all that is written in a run, with and without a line's end after its last line.
-fn run_scenario(
-    rt: &impl Abort,
-    alloc: Global,
-    capacity: usize,
-    shares: &[&'static str],
-    run: &str,
-) {
+fn run_scenario(rt: &impl Abort, alloc: Global, capacity: u32, shares: &[&'static str], run: &str) {
     let input = input_of(alloc, run).ok().expect(rt, "memory");
     compare(rt, alloc, setup(rt, alloc, capacity, shares), &input, run);
     let ended = join(alloc, &[&input, b"\n"]).ok().expect(rt, "memory");

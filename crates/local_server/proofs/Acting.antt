@@ -273,12 +273,12 @@ moved ledger old new connected membership goes follows was =
     (calm ledger old new connected.session.membership entries goes was)
 
 subscribed : (refused : Option ℕ) (ledger : Ledger) (old new : Broker) (connected : ConnectedClient GroupPlace) (subscribe : Subscribe) (reply : Reply) (membership : Membership GroupPlace) (subscription : Option ℕ)
-    → SubscribesAs Calls slot_of refused connected.terms old connected.session.membership connected.session.subscription subscribe reply membership subscription new → HoldsClient ledger old connected
+    → SubscribesAs Calls slot_of refused old connected.session.membership connected.session.subscription subscribe reply membership subscription new → HoldsClient ledger old connected
     → Holds ledger new membership (held_of connected.session.window) × AddsIn old.groups [] new.groups
 subscribed (Some code) ledger old new connected subscribe reply membership subscription does was =
     let goes = still old new does.3 in (moved ledger old new connected membership goes (same_member connected.session.membership membership does.1) was, goes.adds)
 subscribed None ledger old new connected subscribe reply membership subscription does was =
-    let all = entries_answered subscribe.subscriptions connected.terms old new connected.session.membership does.0 membership does.2 in
+    let all = entries_answered subscribe.subscriptions old new connected.session.membership does.0 membership does.2 in
     (moved ledger old new connected membership all.0 all.1 was, all.0.adds)
 
 unsubscribed : (refused : Option ℕ) (ledger : Ledger) (old new : Broker) (connected : ConnectedClient GroupPlace) (unsubscribe : Unsubscribe) (reply : Reply) (membership : Membership GroupPlace)

@@ -20,11 +20,11 @@ use Rattle.conn_engine.specs.declared.input.Input.TheVariants as inputs
 use Rattle.conn_engine.specs.declared.phase.ConnectedClient.{ConnectedClient}
 use Rattle.conn_engine.specs.declared.phase.ConnPhase.{ConnPhase}
 use Rattle.conn_engine.specs.declared.phase.ConnPhase.TheVariants.{Unconnected, Waiting, Connected, Ended}
-use Rattle.conn_engine.specs.Connecting.{has_place}
 use Rattle.conn_engine.specs.Step.{Steps}
 use Rattle.conn_laws.specs.Calls.{discards_of, Confirms, SettlesOne, SettlesNone}
 use Rattle.conn_laws.specs.Marks.{acknowledged_of, IsAckedBy}
 use Rattle.conn_laws.specs.Transcripts.{connected_of, SessionSteps, Transcribes}
+use Rattle.conn_laws.specs.Places.{has_place}
 use Rattle.local_broker.specs.Places.{GroupPlace}
 use Rattle.local_broker.specs.Broker.{Broker}
 use Rattle.local_broker.specs.Calls.{Calls}

@@ -9,7 +9,6 @@ use Rattle.member_window.specs.Contents.{held_of}
 use Rattle.member_window.proofs.Lists.{contains_nil}
 use Rattle.conn_rules.specs.declared.subscribing.EntryAnswer.{EntryAnswer}
 use Rattle.conn_rules.specs.declared.subscribing.EntryAnswer.TheVariants as entries
-use Rattle.conn_rules.specs.declared.terms.Terms.{Terms}
 use Rattle.conn_rules.specs.Subscribing.{entry_answer}
 use Rattle.session_desk.specs.declared.session.Membership.{Membership}
 use Rattle.session_desk.specs.declared.session.Membership.TheVariants.{NotMember, Member, Leaving}
@@ -184,13 +183,13 @@ entry_answered : (answer : EntryAnswer) (old new : Broker) (membership : Members
 entry_answered (entries.Refuse refused) old new membership code membership' answers = (still old new answers.2, same_member membership membership' answers.1)
 entry_answered (entries.Join share) old new membership code membership' answers = joined membership old new share code membership' answers
 
-pub entries_answered : (subscriptions : List Subscription) (terms : Terms) (old new : Broker) (membership : Membership GroupPlace) (codes : List ℕ)
+pub entries_answered : (subscriptions : List Subscription) (old new : Broker) (membership : Membership GroupPlace) (codes : List ℕ)
     (membership' : Membership GroupPlace)
-    → AnswersEntries Calls slot_of terms old membership subscriptions codes membership' new → Moves membership membership' old new
-entries_answered [] terms old new membership codes membership' answers = (still old new answers.2, same_member membership membership' answers.1)
-entries_answered (entry ∷ others) terms old new membership codes membership' answers =
-    let first = entry_answered (entry_answer entry terms) old answers.3 membership answers.0 answers.2 answers.4 in
-    let rest = entries_answered others terms answers.3 new answers.2 answers.1 membership' answers.5 in
+    → AnswersEntries Calls slot_of old membership subscriptions codes membership' new → Moves membership membership' old new
+entries_answered [] old new membership codes membership' answers = (still old new answers.2, same_member membership membership' answers.1)
+entries_answered (entry ∷ others) old new membership codes membership' answers =
+    let first = entry_answered (entry_answer entry) old answers.3 membership answers.0 answers.2 answers.4 in
+    let rest = entries_answered others answers.3 new answers.2 answers.1 membership' answers.5 in
     (calm_then old answers.3 new first.0 rest.0, λ b held owned. rest.1 b held (first.1 b held owned))
 
 left : (membership : Membership GroupPlace) (parsed : Result Share TopicError) (old new : Broker) (code : ℕ) (membership' : Membership GroupPlace)

@@ -2,7 +2,7 @@
 //!
 //! ```
 //! let groups = Routes::new(alloc); // clients bind the shares that they subscribe to
-//! let setup = Setup { capacity: 1_024, max_inflight: MaxInflight::most(), groups }; // in each group at most 1,024 messages wait
+//! let setup = Setup { capacity, max_inflight: MaxInflight::most(), groups }; // in each group at most 1,024 messages wait
 //! let mut server = Server::open(alloc, setup)?;
 //! let number = ConnectionNumber::new(0)?;
 //! server.happen(0, &Event::Open(number), &mut said)?; // a client connects, at the moment 0

@@ -51,7 +51,7 @@ impl Server {
             max_inflight,
             groups,
         } = setup;
-        let supply = LocalSupply::open(alloc, capacity, groups)?;
+        let supply = LocalSupply::open(alloc, capacity.get() as usize, groups)?;
         match ClientTable::new(alloc) {
             Ok(clients) => Ok(Server {
                 supply,

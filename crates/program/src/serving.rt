@@ -126,7 +126,7 @@ fn serve_as<H: Threads + Wait + Net + Clock + Sync, R: Read + Send, W: Write>(
     serve_at(
         rt,
         alloc,
-        setup.capacity,
+        setup.capacity.get() as usize,
         setup.groups,
         workers,
         setup.max_inflight,

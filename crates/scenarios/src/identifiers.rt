@@ -2,7 +2,7 @@
 
 use crate::scenario::Scenario;
 
-pub(crate) const PLAYS: [Scenario<'static>; 3] = [
+pub(crate) const SCENARIOS: [Scenario<'static>; 3] = [
     // Each job has the identifier of the SUBSCRIBE that was granted last; one that was refused changes nothing.
     Scenario {
         name: "identifiers_of_subscriptions",

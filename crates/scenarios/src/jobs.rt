@@ -2,7 +2,7 @@
 
 use crate::scenario::Scenario;
 
-pub(crate) const PLAYS: [Scenario<'static>; 9] = [
+pub(crate) const SCENARIOS: [Scenario<'static>; 9] = [
     Scenario {
         name: "first_job",
         capacity: 1_024,

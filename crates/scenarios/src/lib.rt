@@ -3,6 +3,7 @@
 
 mod identifiers;
 mod jobs;
+mod long_messages;
 mod packets;
 mod scenario;
 mod sessions;
@@ -10,13 +11,14 @@ mod sessions;
 pub use scenario::{Scenario, ScenarioEvent, What};
 pub use sessions::longest_wait;
 
-/// All scenarios but the one of [`longest_wait`], by what they show: what becomes of jobs, of sessions and of single packets, and Subscription
-/// Identifiers.
-pub fn all_scenarios() -> [&'static [Scenario<'static>]; 4] {
+/// All scenarios but the one of [`longest_wait`], by what they show: what becomes of jobs, of sessions and of single packets, Subscription
+/// Identifiers, and messages that are too long.
+pub fn all_scenarios() -> [&'static [Scenario<'static>]; 5] {
     [
-        &jobs::PLAYS,
-        &sessions::PLAYS,
-        &packets::PLAYS,
-        &identifiers::PLAYS,
+        &jobs::SCENARIOS,
+        &sessions::SCENARIOS,
+        &packets::SCENARIOS,
+        &identifiers::SCENARIOS,
+        &long_messages::SCENARIOS,
     ]
 }

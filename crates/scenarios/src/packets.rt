@@ -2,7 +2,7 @@
 
 use crate::scenario::Scenario;
 
-pub(crate) const PLAYS: [Scenario<'static>; 11] = [
+pub(crate) const SCENARIOS: [Scenario<'static>; 11] = [
     // MQTT 3.1.1
     Scenario {
         name: "first_packets",

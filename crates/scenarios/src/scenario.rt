@@ -7,7 +7,7 @@ use std::alloc::Global;
 pub struct Scenario<'a> {
     pub name: &'a str,
     /// How many messages may wait in each group.
-    pub capacity: usize,
+    pub capacity: u32,
     /// The shares that are bound.
     pub shares: &'a [&'a str],
     /// The events, as `drive` reads them, and after each of them, with `> ` before it, what is written then; at the end the reports.

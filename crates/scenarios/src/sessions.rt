@@ -3,7 +3,7 @@
 use crate::scenario::Scenario;
 use std::alloc::Global;
 
-pub(crate) const PLAYS: [Scenario<'static>; 7] = [
+pub(crate) const SCENARIOS: [Scenario<'static>; 7] = [
     Scenario {
         name: "resume",
         capacity: 1_024,

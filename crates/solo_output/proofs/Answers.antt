@@ -149,12 +149,12 @@ module _ (solo : SoloState) (connected : ConnectedClient GroupPlace) (old : Brok
   -- ---- a SUBSCRIBE and an UNSUBSCRIBE
   subscribes : (subscribe : Subscribe) (refusal : Option ℕ) (membership : Membership GroupPlace) (subscription : Option ℕ) (connected' : ConnectedClient GroupPlace) (reply : ConnReply) (new : Broker)
       → connected' ≡ subscribing connected membership subscription
-      → SubscribesAs Calls slot_at refusal connected.terms old connected.session.membership connected.session.subscription subscribe reply membership subscription new → Answered (subscribe_reply_as refusal subscribe solo) connected' reply new
+      → SubscribesAs Calls slot_at refusal old connected.session.membership connected.session.subscription subscribe reply membership subscription new → Answered (subscribe_reply_as refusal subscribe solo) connected' reply new
   subscribes subscribe (Some code) membership subscription connected' reply new has_connected does =
       closes _ connected' reply new (has_connected ∙ (λ i. subscribing connected (does.1 i) (does.2 i))) does.0 does.3
   subscribes subscribe None membership subscription connected' reply new has_connected (codes, is, does, after) =
       let identifier = subscribe.properties.subscription_identifier in
-      let all = joins_all connected.terms subscribe.subscriptions solo connected.session old new codes membership shows.session shows.terms does in
+      let all = joins_all subscribe.subscriptions solo connected.session old new codes membership shows.session does in
       let joined = join_all subscribe.subscriptions solo in
       let own = subscription_after joined.codes identifier joined.solo.subscription in
       let same : subscription ≡ own = after ∙ (λ i. subscription_after (all.codes_are i) identifier (all.shows.subscribed i)) in

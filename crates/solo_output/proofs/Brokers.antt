@@ -9,11 +9,17 @@ use Rattle.group_jobs.specs.declared.message.Message.{Message}
 use Rattle.group_jobs.specs.Stamps.{Held}
 use Rattle.session_desk.specs.declared.session.Membership.{Membership}
 use Rattle.session_desk.specs.declared.session.Membership.TheVariants.{NotMember, Member, Leaving}
+use Rattle.conn_rules.specs.Setups.{most_capacity}
 use Rattle.local_group.specs.Groups.{Group}
 use Rattle.local_broker.specs.Groups.{InGroup}
 use Rattle.local_broker.specs.Broker.{Broker}
 use Rattle.solo_output.specs.Groups.{Bound, SoloState, shares_of, accepted_in, accepting, handed_in, bound}
 use Rattle.solo_output.proofs.Groups.{ShowsGroup}
+
+-- a broker of eight groups has a slot for each share, and its queues are as long as may be
+pub record FitsBroker (capacity : ℕ) (shares : List Share) : Type 0 where
+  pub few : length shares ≤ 8
+  pub small : capacity ≤ most_capacity
 
 -- the entries of the window that are messages of the group of this slot: a client is a member of one group at a time
 abbrev pub entries_at : Membership ℕ → ℕ → List (ℕ × Held) → List (ℕ × Held)

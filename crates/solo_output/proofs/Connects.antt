@@ -45,7 +45,7 @@ use Rattle.solo_output.proofs.Counted.{none_counted}
 use Rattle.solo_output.proofs.Groups.{ShowsGroup}
 use Rattle.solo_output.proofs.Desks.{ShowsDesk, AllFree}
 use Rattle.solo_output.proofs.Sessions.{IsLentAs, ShowsClient, broker_moved}
-use Rattle.solo_output.proofs.Brokers.{ShowsBroker, accepted_first, shares_first}
+use Rattle.solo_output.proofs.Brokers.{FitsBroker, ShowsBroker, accepted_first, shares_first}
 
 -- the name that is given first
 first_name : (number : ℕ) → assigned [] (record { number = number; client = assigned_name 1 }) ≡ assigned_to []
@@ -53,11 +53,11 @@ unfolding is_text is_utf8 chars lib.Utf8.encode
 first_name number = refl
 
 -- a new broker shows the model before the first packet
-pub opens : (capacity max_inflight : ℕ) (shares : List Share) (b : Broker) → length shares ≤ 8 → IsNewBroker capacity shares b → ShowsBroker (opening capacity max_inflight shares) [] b
-opens capacity max_inflight shares b few new =
+pub opens : (capacity max_inflight : ℕ) (shares : List Share) (b : Broker) → FitsBroker capacity shares → IsNewBroker capacity shares b → ShowsBroker (opening capacity max_inflight shares) [] b
+opens capacity max_inflight shares b fits new =
     record {
       routes = new.routes ∙ sym (shares_first shares);
-      few = omega (arith, few, Rattle.std.proofs.lemmas.List.length-map shares bound);
+      few = omega (arith, fits.few, Rattle.std.proofs.lemmas.List.length-map shares bound);
       eight = new.eight;
       groups = λ slot group there.
           (let is = new.groups slot group there in
@@ -69,6 +69,8 @@ opens capacity max_inflight shares b few new =
             counted = none_counted group is.fresh;
             order = omega arith;
             queue = ap (map (λ w. w.message)) is.fresh.queue;
+            holds = omega (arith, ap length is.fresh.queue);
+            small = fits.small;
             none_returned = is.fresh.returned;
             opens = refl;
             ours = tt;
@@ -181,9 +183,9 @@ pub record Began (connect : Connect) (solo : SoloState) (phase : ConnPhase Group
 not_memory : (mid new : Broker) (request : ConnectRequest) (answer : Result (Attached Held GroupPlace) DeskError) (phase : ConnPhase GroupPlace) (reply : ConnReply) → AttachedAs Calls mid request 0 answer phase reply new → answer ≢ Err errors.Memory
 not_memory mid new request answer phase reply does is = absurd (subst (λ a. AttachedAs Calls mid request 0 a phase reply new) is does)
 
-pub attaches : (connect : Connect) (capacity max_inflight : ℕ) (shares : List Share) (now : ℕ) (phase : ConnPhase GroupPlace) (reply : ConnReply) (old new : Broker) → IsNewBroker capacity shares old → length shares ≤ 8
+pub attaches : (connect : Connect) (capacity max_inflight : ℕ) (shares : List Share) (now : ℕ) (phase : ConnPhase GroupPlace) (reply : ConnReply) (old new : Broker) → IsNewBroker capacity shares old → FitsBroker capacity shares
     → EngineAttaches Calls old 0 now (request_of max_inflight connect now) 0 phase reply new → Began connect (opening capacity max_inflight shares) phase reply new
-attaches connect capacity max_inflight shares now phase reply old new is_new few does =
+attaches connect capacity max_inflight shares now phase reply old new is_new fits does =
     let solo = opening capacity max_inflight shares in
     let client = connect.client_identifier in
     let request = asked 0 client connect.clean_start now in
@@ -193,7 +195,7 @@ attaches connect capacity max_inflight shares now phase reply old new is_new few
     let same : new ≡ mid = begins_as.0 in
     let accepts = begins_as.1 in
     let session = opened {P = GroupPlace} (new_session first.who) (terms_of max_inflight connect) in
-    let start = opens capacity max_inflight shares old few is_new in
+    let start = opens capacity max_inflight shares old fits is_new in
     let now_shows : ShowsBroker (begun connect solo) [] old = record { routes = start.routes; few = start.few; eight = start.eight; groups = start.groups } in
     let then_shows : ShowsBroker (begun connect solo) [] new =
     subst (ShowsBroker (begun connect solo) []) (sym same) (broker_moved (begun connect solo) [] old mid does.asked_for.routes does.asked_for.groups now_shows) in

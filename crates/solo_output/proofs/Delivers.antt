@@ -1,5 +1,5 @@
 -- What is handed out after a reply is what the model delivers.
-use Rattle.std.proofs.Common.{◌≡◌, ◌≢◌, ℕ, List, [], ◌∷◌, ◌++◌, Option, refl, sym, ap, ◌∙◌, subst, inl, inr}
+use Rattle.std.proofs.Common.{◌≡◌, ◌≢◌, ℕ, List, [], ◌∷◌, ◌++◌, refl, sym, ap, ◌∙◌, subst, inl, inr}
 use Rattle.std.proofs.lemmas.List.{append-nil}
 use Rattle.mqtt_packet.specs.declared.packet.Packet.{Packet}
 use Rattle.group_jobs.specs.Stamps.{Held}
@@ -9,6 +9,7 @@ use Rattle.session_desk.specs.declared.session.Session.{Session}
 use Rattle.session_desk.specs.declared.session.Membership.{Membership}
 use Rattle.session_desk.specs.declared.session.Membership.TheVariants.{NotMember, Member, Leaving}
 use Rattle.session_desk.specs.Rows.{Rows}
+use Rattle.conn_rules.specs.declared.hand_outs.HandOutTerms.{HandOutTerms}
 use Rattle.conn_rules.specs.declared.terms.Terms.{Terms}
 use Rattle.conn_supply.specs.Memberships.{with_window, with_membership as having}
 use Rattle.conn_supply.specs.HandOuts.{SendsAgain, HandsFresh, HandsOut, LeavesWith}
@@ -17,10 +18,10 @@ use Rattle.conn_engine.specs.Step.{after_hand_out, hand_out_terms}
 use Rattle.local_broker.specs.Places.{GroupPlace}
 use Rattle.local_broker.specs.Broker.{Broker}
 use Rattle.local_broker.specs.Calls.{Calls}
-use Rattle.solo_output.specs.Groups.{SoloState, Phase, unacknowledged, with_membership}
-use Rattle.solo_output.specs.HandOuts.{SoloStep, due, hand_out, sends_nothing, left_with, deliver_to, deliver_in, deliver}
+use Rattle.solo_output.specs.Groups.{SoloState, Phase, unacknowledged, waiting_in, with_membership}
+use Rattle.solo_output.specs.HandOuts.{SoloStep, hand_out, sends_nothing, left_with, deliver_to, deliver_in, deliver}
 use Rattle.solo_output.proofs.Brokers.{entries_at, entries_none}
-use Rattle.solo_output.proofs.Hands.{first_place, plainly, sends_fresh}
+use Rattle.solo_output.proofs.Hands.{first_place, sent_under, sends_fresh}
 use Rattle.solo_output.proofs.Desks.{ShowsDesk, takes}
 use Rattle.solo_output.proofs.Sessions.{placed, Idles, IsLentAs, ShowsClient, hand_out_keeps, broker_as, window_as, broker_moved}
 
@@ -98,12 +99,12 @@ module _ (solo : SoloState) (connected : ConnectedClient GroupPlace) (old : Brok
       (as_it_is [] membership window new refl (does.1 ∙ sym (shows.session.member ∙ ap placed is)) kept does.2)
 
   hands : (own : Membership ℕ) → solo.membership ≡ own → (fresh : List Packet) (membership : Membership GroupPlace) (window : Contents Held) (new : Broker)
-      → HandsFresh Calls (plainly solo.subscription) old (placed own) connected.session.window fresh membership window new → Delivered (deliver_to own solo) connected fresh membership window new
+      → HandsFresh Calls (sent_under solo) old (placed own) connected.session.window fresh membership window new → Delivered (deliver_to own solo) connected fresh membership window new
   hands NotMember is fresh membership window new does = as_it_is fresh membership window new does.0 (does.1 ∙ sym (shows.session.member ∙ ap placed is)) does.2 does.3
   hands (Member slot) is fresh membership window new (place', as_, does) =
       let got = sends_fresh fresh slot solo is connected.session.window old shows.session.broker shows.session.window place' window new does in
-      let keeps = hand_out_keeps slot (due slot solo) solo in
-      let behind = (hand_out slot (due slot solo) solo).solo in
+      let keeps = hand_out_keeps slot (waiting_in slot solo) solo in
+      let behind = (hand_out slot (waiting_in slot solo) solo).solo in
       let own : behind.membership ≡ Member slot = keeps.membership ∙ is in
       let session : Session Held GroupPlace = having (with_window connected.session window) membership in
       record {
@@ -132,8 +133,9 @@ module _ (solo : SoloState) (connected : ConnectedClient GroupPlace) (old : Brok
       let again = none_again does.again connected.session.window does.between shows.session.window.none_waits does.sent_again in
       let all_fresh : sent ≡ does.fresh = does.both ∙ ap (λ (l : List Packet). l ++ does.fresh) again.0 in
       let its = subst (λ (w : Contents Held). HandsFresh Calls (hand_out_terms connected) old connected.session.membership w does.fresh membership window new) again.1 does.sent_fresh in
-      let under = subst (λ (s : Option ℕ). HandsFresh Calls (plainly s) old connected.session.membership connected.session.window does.fresh membership window new) shows.session.subscribed its in
-      let own = subst (λ (m : Membership GroupPlace). HandsFresh Calls (plainly solo.subscription) old m connected.session.window does.fresh membership window new) shows.session.member under in
+      let terms : hand_out_terms connected ≡ sent_under solo = λ i. record { subscription = shows.session.subscribed i; maximum_packet_size = (shows.terms i).maximum_packet_size } in
+      let under = subst (λ (s : HandOutTerms). HandsFresh Calls s old connected.session.membership connected.session.window does.fresh membership window new) terms its in
+      let own = subst (λ (m : Membership GroupPlace). HandsFresh Calls (sent_under solo) old m connected.session.window does.fresh membership window new) shows.session.member under in
       let got = hands solo.membership refl does.fresh membership window new own in
       subst (λ (p : Phase). Delivered (deliver_in p solo) connected sent membership window new) (sym shows.phase)
       (subst (λ (l : List Packet). Delivered (deliver_to solo.membership solo) connected l membership window new) (sym all_fresh) got)

@@ -7,7 +7,7 @@ use Rattle.group_jobs.specs.Stamps.{Held}
 use Rattle.session_desk.specs.declared.session.Membership.{Membership}
 use Rattle.session_desk.specs.declared.session.Membership.TheVariants.{NotMember, Member, Leaving}
 use Rattle.session_desk.specs.Books.{Books}
-use Rattle.session_desk.specs.Places.{IsFreeAt, IsLeast, cell_at}
+use Rattle.session_desk.specs.Places.{IsFreeAt, cell_at}
 use Rattle.conn_supply.specs.SupplyCalls.SupplyCall.{LendPlace, TakePlace, Kicked}
 use Rattle.local_broker.specs.Places.{GroupPlace, cell_of, place_at}
 use Rattle.local_broker.specs.Broker.{Broker}

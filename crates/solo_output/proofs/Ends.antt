@@ -18,7 +18,7 @@ use Rattle.local_broker.specs.Calls.{Calls, AsksDesk}
 use Rattle.local_broker.specs.Reporting.{TellsLine}
 use Rattle.solo_output.specs.Groups.{SoloState, Bound, shares_of, accepted_in, handed_in, open_identifiers}
 use Rattle.solo_output.specs.Report.{counts_of, line_of, report_of}
-use Rattle.solo_output.proofs.Groups.{ShowsGroup, IsEnding, ending, one_back, good_of, bad_of}
+use Rattle.solo_output.proofs.Groups.{ShowsGroup, IsEnding, ending, one_back, good_of, bad_of, off_of}
 use Rattle.solo_output.proofs.Reported.{fates_are, line_is}
 use Rattle.solo_output.proofs.Brokers.{ShowsBroker, entries_at, in_group, entries_none}
 use Rattle.solo_output.proofs.Hands.{first_place}
@@ -29,7 +29,7 @@ use Rattle.solo_output.proofs.Delivers.{all_owed}
 -- what a group has of its slot once the client is gone
 abbrev EndsAs : SoloState → ℕ → ℕ → List (ℕ × Held) → Group → Type 0
 EndsAs solo slot returned entries group =
-    IsEnding (length (accepted_in slot solo.groups)) (good_of (handed_in slot solo.handed_out)) (bad_of (handed_in slot solo.handed_out))
+    IsEnding (length (accepted_in slot solo.groups)) (good_of (handed_in slot solo.handed_out)) (bad_of (handed_in slot solo.handed_out)) (off_of (handed_in slot solo.handed_out))
     (length (accepted_in slot solo.groups) - length (handed_in slot solo.handed_out)) returned slot entries group
 
 -- a group tells the fates that the model has
@@ -37,7 +37,7 @@ pub record ReportsFates (slot : ℕ) (solo : SoloState) (group : Group) : Type 0
   pub entries : List (ℕ × Held)
   pub returned : ℕ
   pub ends : EndsAs solo slot returned entries group
-  pub fates : fates_are (good_of (handed_in slot solo.handed_out)) (bad_of (handed_in slot solo.handed_out)) (length entries)
+  pub fates : fates_are (good_of (handed_in slot solo.handed_out)) (bad_of (handed_in slot solo.handed_out)) (off_of (handed_in slot solo.handed_out)) (length entries)
       (length (accepted_in slot solo.groups) - length (handed_in slot solo.handed_out)) returned
       ≡ counts_of solo.terms.session_expiry_interval (length (accepted_in slot solo.groups)) (handed_in slot solo.handed_out)
 
@@ -57,7 +57,7 @@ module _ (solo : SoloState) (slot : ℕ) (group : Group) where
         entries = entries;
         returned = returned;
         ends = ends;
-        fates = λ i. fates_are (good_of (handed_in slot solo.handed_out)) (bad_of (handed_in slot solo.handed_out)) (held i)
+        fates = λ i. fates_are (good_of (handed_in slot solo.handed_out)) (bad_of (handed_in slot solo.handed_out)) (off_of (handed_in slot solo.handed_out)) (held i)
             (length (accepted_in slot solo.groups) - length (handed_in slot solo.handed_out)) (back i);
       }
 
@@ -99,7 +99,7 @@ line_told solo b shows slot line tells_line own there =
     get_or_from_slice_get (map (λ (g : Bound). g.accepted) solo.groups) slot own.accepted []
     (slice_get-map (λ (g : Bound). g.accepted) solo.groups slot ∙ ap (option_map (λ (g : Bound). g.accepted)) there) in
     tells_line.is_line.told
-    ∙ line_is (length (accepted_in slot solo.groups)) (good_of hand_outs) (bad_of hand_outs) (length (accepted_in slot solo.groups) - length hand_outs) told.returned slot told.entries
+    ∙ line_is (length (accepted_in slot solo.groups)) (good_of hand_outs) (bad_of hand_outs) (off_of hand_outs) (length (accepted_in slot solo.groups) - length hand_outs) told.returned slot told.entries
     tells_line.group told.ends tells_line.is_line.report tells_line.is_line.reports tells_line.share
     ∙ ap (line_of tells_line.share (length (accepted_in slot solo.groups))) told.fates
     ∙ (λ i. line_of (share i) (length (accepted i)) (counts_of expiry (length (accepted i)) hand_outs))
@@ -135,7 +135,7 @@ gives_back solo slot total (entry ∷ entries) returned old new place' left is (
     let accepted = length (accepted_in slot solo.groups) in
     let was = (is.each slot call.0.before call.0.there).0 refl in
     let one : EndsAs solo slot (returned + 1) entries call.0.after =
-    one_back accepted (good_of hand_outs) (bad_of hand_outs) (accepted - length hand_outs) returned slot entry entries call.0.before call.0.after was.0 call.0.does in
+    one_back accepted (good_of hand_outs) (bad_of hand_outs) (off_of hand_outs) (accepted - length hand_outs) returned slot entry entries call.0.before call.0.after was.0 call.0.does in
     let next : Returning solo slot total entries (returned + 1) mid = record {
       routes = call.2.routes ∙ is.routes;
       each = in_group old.groups mid.groups slot _

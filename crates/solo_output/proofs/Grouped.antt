@@ -1,5 +1,5 @@
 -- What every run of a model keeps in its groups: their slots, and one fate for each message.
-use Rattle.std.proofs.Common.{◌≡◌, ℕ, suc, ◌+◌, ◌≤◌, ◌==◌, nat_lt, not, Bool, true, false, cond, List, [], ◌∷◌, ◌++◌, length, Option, Some, None, refl, sym, ap, ◌∙◌, subst, arith}
+use Rattle.std.proofs.Common.{◌≡◌, ℕ, ◌+◌, ◌≤◌, ◌==◌, nat_lt, not, Bool, true, false, cond, List, [], ◌∷◌, ◌++◌, length, Option, refl, sym, ap, ◌∙◌, subst, arith}
 use Rattle.std.specs.List.{count_by}
 use Rattle.std.proofs.lemmas.List.{append-nil, append_assoc, length-map, length_push, map-append}
 use Rattle.std.proofs.lemmas.List.Sums.{sum_by-cons}
@@ -8,7 +8,8 @@ use Rattle.mqtt_topic.specs.Names.{Share}
 use Rattle.mqtt_topic.specs.Routes.{AreDistinct}
 use Rattle.mqtt_topic.proofs.RouteLaws.{none_has, distinct_more}
 use Rattle.conn_rules.specs.declared.setup.Setup.{Setup}
-use Rattle.solo_output.specs.Groups.{SoloState, HandOut, Bound, bound, opening, shares_of, accepted_in, handed_in, open_identifiers, acknowledges, refuses, with_message, with_share}
+use Rattle.solo_output.specs.Groups.{SoloState, HandOut, Outcome, Bound, bound, opening, shares_of, accepted_in, handed_in, open_identifiers, acknowledges, refuses, discards, with_message, with_share}
+use Rattle.solo_output.specs.Groups.Outcome.{Unacknowledged, Acknowledged, Discarded}
 use Rattle.solo_output.specs.Replies.{solo_steps}
 use Rattle.solo_output.specs.Report.{counts_of}
 use Rattle.solo_output.specs.Runs.{run_of}
@@ -86,29 +87,39 @@ groups_all setup packets few distinct =
 -- ---- fates
 
 abbrev good : List HandOut → ℕ
-good hand_outs = count_by (λ hand_out. acknowledges hand_out.code) hand_outs
+good hand_outs = count_by (λ hand_out. acknowledges hand_out.outcome) hand_outs
 
 abbrev bad : List HandOut → ℕ
-bad hand_outs = count_by (λ hand_out. refuses hand_out.code) hand_outs
+bad hand_outs = count_by (λ hand_out. refuses hand_out.outcome) hand_outs
 
 either_code : (b : Bool) → cond b 1 0 + cond (not b) 1 0 ≡ 1
 either_code true = refl
 either_code false = refl
 
-fate_first : (slot : ℕ) (subscription : Option ℕ) (identifier : ℕ) (code : Option ℕ) (others : List HandOut) → good others + bad others + length (open_identifiers others) ≡ length others
-    → good (handed slot subscription identifier code ∷ others) + bad (handed slot subscription identifier code ∷ others) + length (open_identifiers (handed slot subscription identifier code ∷ others)) ≡ suc (length others)
-fate_first slot subscription identifier None others rest =
-    let one = handed slot subscription identifier None in
-    omega (arith, rest, sum_by-cons (λ (h : HandOut). cond (acknowledges h.code) 1 0) one others, sum_by-cons (λ (h : HandOut). cond (refuses h.code) 1 0) one others)
-fate_first slot subscription identifier (Some code) others rest =
-    let one = handed slot subscription identifier (Some code) in
-    let told : good (one ∷ others) ≡ cond (nat_lt code 128) 1 0 + good others = sum_by-cons (λ (h : HandOut). cond (acknowledges h.code) 1 0) one others in
-    let not_told : bad (one ∷ others) ≡ cond (not (nat_lt code 128)) 1 0 + bad others = sum_by-cons (λ (h : HandOut). cond (refuses h.code) 1 0) one others in
-    omega (arith, rest, told, not_told, either_code (nat_lt code 128))
+abbrev off : List HandOut → ℕ
+off hand_outs = count_by (λ hand_out. discards hand_out.outcome) hand_outs
 
-fates : (hand_outs : List HandOut) → good hand_outs + bad hand_outs + length (open_identifiers hand_outs) ≡ length hand_outs
+-- each hand-out counts once
+abbrev AllCount : List HandOut → Type 0
+AllCount hand_outs = good hand_outs + bad hand_outs + off hand_outs + length (open_identifiers hand_outs) ≡ length hand_outs
+
+fate_first : (slot : ℕ) (subscription : Option ℕ) (identifier : ℕ) (outcome : Outcome) (others : List HandOut) → AllCount others → AllCount (handed slot subscription identifier outcome ∷ others)
+fate_first slot subscription identifier Unacknowledged others rest =
+    let one = handed slot subscription identifier Unacknowledged in
+    omega (arith, rest, sum_by-cons (λ (h : HandOut). cond (acknowledges h.outcome) 1 0) one others, sum_by-cons (λ (h : HandOut). cond (refuses h.outcome) 1 0) one others, sum_by-cons (λ (h : HandOut). cond (discards h.outcome) 1 0) one others)
+fate_first slot subscription identifier (Acknowledged code) others rest =
+    let one = handed slot subscription identifier (Acknowledged code) in
+    let told : good (one ∷ others) ≡ cond (nat_lt code 128) 1 0 + good others = sum_by-cons (λ (h : HandOut). cond (acknowledges h.outcome) 1 0) one others in
+    let not_told : bad (one ∷ others) ≡ cond (not (nat_lt code 128)) 1 0 + bad others = sum_by-cons (λ (h : HandOut). cond (refuses h.outcome) 1 0) one others in
+    let sent : off (one ∷ others) ≡ 0 + off others = sum_by-cons (λ (h : HandOut). cond (discards h.outcome) 1 0) one others in
+    omega (arith, rest, told, not_told, sent, either_code (nat_lt code 128))
+fate_first slot subscription identifier Discarded others rest =
+    let one = handed slot subscription identifier Discarded in
+    omega (arith, rest, sum_by-cons (λ (h : HandOut). cond (acknowledges h.outcome) 1 0) one others, sum_by-cons (λ (h : HandOut). cond (refuses h.outcome) 1 0) one others, sum_by-cons (λ (h : HandOut). cond (discards h.outcome) 1 0) one others)
+
+fates : (hand_outs : List HandOut) → AllCount hand_outs
 fates [] = refl
-fates (one ∷ others) = fate_first one.slot one.subscription one.identifier one.code others (fates others)
+fates (one ∷ others) = fate_first one.slot one.subscription one.identifier one.outcome others (fates others)
 
 held_or_back : (b : Bool) (n : ℕ) → cond b 0 n + cond b n 0 ≡ n
 held_or_back true n = omega arith

@@ -15,7 +15,6 @@ use Rattle.session_desk.specs.declared.session.Membership.{Membership}
 use Rattle.session_desk.specs.declared.session.Membership.TheVariants.{NotMember, Member, Leaving}
 use Rattle.conn_rules.specs.declared.subscribing.EntryAnswer.{EntryAnswer}
 use Rattle.conn_rules.specs.declared.subscribing.EntryAnswer.TheVariants as entries
-use Rattle.conn_rules.specs.declared.terms.Terms.{Terms}
 use Rattle.conn_rules.specs.Subscribing.{filter_code, refused_code, share_answer, entry_answer}
 use Rattle.solo_output.specs.Groups.{SoloState, Bound, bound, shares_of, with_membership, with_share}
 use Rattle.solo_output.specs.Subscribing.{Coded, AllCoded, coded, coded_first, enter, is_slot, stay, join_as, entry_reply, join_all}
@@ -145,8 +144,8 @@ share_fits false (Ok share) text is = λ e. absurd (omega (arith, e))
 share_fits true (Err refusal) text is = refused_fits refusal text
 share_fits false (Err refusal) text is = refused_fits refusal text
 
-answer_fits : (entry : Subscription) (terms : Terms) → Fits entry.filter (entry_answer entry terms)
-answer_fits entry terms = share_fits _ (share_of entry.filter) entry.filter refl
+answer_fits : (entry : Subscription) → Fits entry.filter (entry_answer entry)
+answer_fits entry = share_fits _ (share_of entry.filter) entry.filter refl
 
 -- the client is a member of its group
 record Enters (text : List ℕ) (one two : SoloState) : Type 0 where
@@ -321,14 +320,14 @@ all_join [] solo =
       granted = λ place told. absurd (none_there place 1 told);
     }
 all_join (entry ∷ others) solo =
-    let one = entry_reply (entry_answer entry solo.terms) solo in
-    first_joins entry.filter (filters_of others) solo one (entry_is entry.filter (entry_answer entry solo.terms) solo (answer_fits entry solo.terms))
+    let one = entry_reply (entry_answer entry) solo in
+    first_joins entry.filter (filters_of others) solo one (entry_is entry.filter (entry_answer entry) solo (answer_fits entry))
     (join_all others one.solo) (all_join others one.solo)
 
 -- ---- who is served
 
-text_of : (entry : Subscription) (terms : Terms) (share : Share) → entry_answer entry terms ≡ entries.Join share → share.text ≡ entry.filter
-text_of entry terms share served = subst (Fits entry.filter) served (answer_fits entry terms)
+text_of : (entry : Subscription) (share : Share) → entry_answer entry ≡ entries.Join share → share.text ≡ entry.filter
+text_of entry share served = subst (Fits entry.filter) served (answer_fits entry)
 
 stays_told : (membership : Membership ℕ) (share : Share) (solo : SoloState) (slot : ℕ) → IsInGroup membership slot → slot_of share.text (shares_of solo.groups) ≡ Some slot
     → (join_as membership (slot_of share.text (shares_of solo.groups)) share solo).code ≡ 1
@@ -350,53 +349,53 @@ enters_told None share solo (inr room) =
     ap (λ (b : Bool). (cond b (coded 1 (with_membership (Member slot) (with_share share solo))) (coded 0x97 solo)).code) (lt-ltb slot most_routes room)
 
 module _ (share : Share) where
-  pub serves_own : (subscriptions : List Subscription) (solo : SoloState) (place slot : ℕ) (entry : Subscription) → slice_get subscriptions place ≡ Some entry → entry_answer entry solo.terms ≡ entries.Join share
+  pub serves_own : (subscriptions : List Subscription) (solo : SoloState) (place slot : ℕ) (entry : Subscription) → slice_get subscriptions place ≡ Some entry → entry_answer entry ≡ entries.Join share
       → IsInGroup solo.membership slot → slot_of share.text (shares_of solo.groups) ≡ Some slot → let all = join_all subscriptions solo in HasCode (filters_of subscriptions) all.codes 1 slot (shares_of all.solo.groups)
   serves_own [] solo place slot entry asked served in_ found = absurd (none_there place entry asked)
   serves_own (first' ∷ others) solo zero slot entry asked served in_ found =
-      let answer = entry_answer first' solo.terms in
+      let answer = entry_answer first' in
       let one = entry_reply answer solo in
       let same = same_Some first' entry asked in
       let told : one.code ≡ 1 =
-      ap (λ (e : Subscription). (entry_reply (entry_answer e solo.terms) solo).code) same ∙ ap (λ (a : EntryAnswer). (entry_reply a solo).code) served ∙ stays_told solo.membership share solo slot in_ found in
-      let text_is : share.text ≡ first'.filter = text_of entry solo.terms share served ∙ ap (λ (e : Subscription). e.filter) (sym same) in
-      let is = entry_is first'.filter answer solo (answer_fits first' solo.terms) in
+      ap (λ (e : Subscription). (entry_reply (entry_answer e) solo).code) same ∙ ap (λ (a : EntryAnswer). (entry_reply a solo).code) served ∙ stays_told solo.membership share solo slot in_ found in
+      let text_is : share.text ≡ first'.filter = text_of entry share served ∙ ap (λ (e : Subscription). e.filter) (sym same) in
+      let is = entry_is first'.filter answer solo (answer_fits first') in
       at_first first'.filter (filters_of others) solo one is (join_all others one.solo) (all_join others one.solo) slot told
       (slot_still solo one.solo first'.filter slot is.follows (ap (λ (t : List ℕ). slot_of t (shares_of solo.groups)) (sym text_is) ∙ found))
   serves_own (first' ∷ others) solo (suc place) slot entry asked served in_ found =
-      let answer = entry_answer first' solo.terms in
+      let answer = entry_answer first' in
       let one = entry_reply answer solo in
-      let is = entry_is first'.filter answer solo (answer_fits first' solo.terms) in
+      let is = entry_is first'.filter answer solo (answer_fits first') in
       let rest = join_all others one.solo in
       one_more first'.filter (filters_of others) one.code rest.codes 1 slot (shares_of rest.solo.groups)
-      (serves_own others one.solo place slot entry asked (ap (λ (t : Terms). entry_answer entry t) is.follows.terms ∙ served)
+      (serves_own others one.solo place slot entry asked served
       (entry_stays_in first'.filter solo one is slot in_) (slot_still solo one.solo share.text slot is.follows found))
 
-  pub serves_free : (subscriptions : List Subscription) (solo : SoloState) (place : ℕ) (entry : Subscription) → slice_get subscriptions place ≡ Some entry → entry_answer entry solo.terms ≡ entries.Join share
+  pub serves_free : (subscriptions : List Subscription) (solo : SoloState) (place : ℕ) (entry : Subscription) → slice_get subscriptions place ≡ Some entry → entry_answer entry ≡ entries.Join share
       → solo.membership ≡ NotMember → HasSlot share solo → let all = join_all subscriptions solo in (slot : ℕ) × HasCode (filters_of subscriptions) all.codes 1 slot (shares_of all.solo.groups)
   serves_free [] solo place entry asked served none has = absurd (none_there place entry asked)
   serves_free (first' ∷ others) solo zero entry asked served none has =
-      let answer = entry_answer first' solo.terms in
+      let answer = entry_answer first' in
       let one = entry_reply answer solo in
       let told : one.code ≡ 1 =
-      ap (λ (e : Subscription). (entry_reply (entry_answer e solo.terms) solo).code) (same_Some first' entry asked)
+      ap (λ (e : Subscription). (entry_reply (entry_answer e) solo).code) (same_Some first' entry asked)
       ∙ ap (λ (a : EntryAnswer). (entry_reply a solo).code) served
       ∙ ap (λ (m : Membership ℕ). (join_as m (slot_of share.text (shares_of solo.groups)) share solo).code) none
       ∙ enters_told (slot_of share.text (shares_of solo.groups)) share solo has in
-      let is = entry_is first'.filter answer solo (answer_fits first' solo.terms) in
+      let is = entry_is first'.filter answer solo (answer_fits first') in
       let enters = entry_joins first'.filter solo one is told in
       (enters.slot, at_first first'.filter (filters_of others) solo one is (join_all others one.solo) (all_join others one.solo) enters.slot told enters.its)
   serves_free (first' ∷ others) solo (suc place) entry asked served none has =
-      let answer = entry_answer first' solo.terms in
+      let answer = entry_answer first' in
       let one = entry_reply answer solo in
-      let is = entry_is first'.filter answer solo (answer_fits first' solo.terms) in
+      let is = entry_is first'.filter answer solo (answer_fits first') in
       let rest = join_all others one.solo in
       ⊎_elim
       (λ (enters : (one.code ≡ 1) × Enters first'.filter solo one.solo).
       (enters.1.slot, at_first first'.filter (filters_of others) solo one is rest (all_join others one.solo) enters.1.slot enters.0 enters.1.its))
       (λ (not_first : (one.code ≢ 1) × (one.solo ≡ solo)).
       let later =
-      serves_free others one.solo place entry asked (ap (λ (t : Terms). entry_answer entry t) is.follows.terms ∙ served) (ap (λ (s : SoloState). s.membership) not_first.1 ∙ none)
+      serves_free others one.solo place entry asked served (ap (λ (s : SoloState). s.membership) not_first.1 ∙ none)
       (subst (HasSlot share) (sym not_first.1) has) in
       (later.0, one_more first'.filter (filters_of others) one.code rest.codes 1 later.0 (shares_of rest.solo.groups) later.1))
       is.does

@@ -1,8 +1,8 @@
 -- What every move of a model keeps: identifiers that differ, the quota, and in each group its order, its life and its capacity.
-use Rattle.std.proofs.Common.{◌≡◌, ◌≢◌, ℕ, suc, ◌+◌, ◌<◌, ◌≤◌, ◌==◌, ◌&&◌, ◌||◌, not, nat_le, Bool, true, false, cond, List, [], ◌∷◌, ◌++◌, map, length, drop, Option, Some, None, refl, sym, ap, ◌∙◌, subst, ⊎_elim, arith}
+use Rattle.std.proofs.Common.{◌≡◌, ◌≢◌, ℕ, suc, ◌+◌, ◌<◌, ◌≤◌, ◌==◌, ◌&&◌, ◌||◌, not, nat_le, min, Bool, true, false, cond, List, [], ◌∷◌, ◌++◌, map, length, drop, Option, refl, sym, ap, ◌∙◌, subst, ⊎_elim, arith}
 use Rattle.std.specs.List.{AllByRecursion}
 use Rattle.std.proofs.lemmas.Bool.{both_ways, cases_eq, cases_lt, le-leb}
-use Rattle.std.proofs.lemmas.List.{length-map, length-drop, length_push}
+use Rattle.std.proofs.lemmas.List.{append-nil, length-map, length-drop, length_push}
 use Rattle.mqtt_packet.specs.declared.packet.Packet.{Packet}
 use Rattle.mqtt_topic.specs.Names.{Share}
 use Rattle.group_jobs.specs.declared.message.Message.{Message}
@@ -11,14 +11,15 @@ use Rattle.member_window.specs.Identifiers.{AreDistinct, identifiers_without}
 use Rattle.member_window.proofs.Lists.{distinct_push, distinct_without, length-without}
 use Rattle.session_desk.specs.declared.session.Membership.{Membership}
 use Rattle.session_desk.specs.declared.session.Membership.TheVariants.{NotMember, Member, Leaving}
-use Rattle.solo_output.specs.Groups.{SoloState, HandOut, bound, opening, accepted_in, handed_in, waiting_in, is_open, open_identifiers, settled, unacknowledged, with_message, with_share, with_puback, with_hand_out, with_membership}
+use Rattle.solo_output.specs.Groups.{SoloState, HandOut, Outcome, bound, opening, accepted_in, handed_in, waiting_in, is_open, open_identifiers, settled, unacknowledged, with_message, with_share, with_puback, with_hand_out, with_membership}
+use Rattle.solo_output.specs.Groups.Outcome.{Unacknowledged, Acknowledged, Discarded}
 use Rattle.solo_output.specs.Groups.Phase.{Unconnected, Connected}
-use Rattle.solo_output.specs.HandOuts.{quota, least_free}
+use Rattle.solo_output.specs.HandOuts.{quota, least_free, is_unfit, outcome_of, next_hand_out}
 use Rattle.solo_output.specs.Publishing.{is_full}
 use Rattle.solo_output.specs.Replies.{reply, solo_step, solo_steps}
 use Rattle.solo_output.specs.Runs.{IsInGroup}
 use Rattle.solo_output.proofs.Groups.{all_kept, all_push}
-use Rattle.solo_output.proofs.Lists.{handed, open_push, handed_in_push_same, handed_in_push_other, open_settled, handed_in_settled}
+use Rattle.solo_output.proofs.Lists.{handed, open_push, open_discarded, handed_in_push_same, handed_in_push_other, open_settled, handed_in_settled}
 use Rattle.solo_output.proofs.Brokers.{accepted_same, accepted_other, accepted_bound, accepted_first, length-accepting}
 use Rattle.solo_output.proofs.Identifiers.{is_least, least_small}
 use Rattle.solo_output.proofs.Moves.{MayJoin, Ways, replied, turned, ran}
@@ -28,7 +29,7 @@ IsSmall identifier = (1 ≤ identifier) × (identifier ≤ 256)
 
 -- what is unacknowledged is of the client's own group
 abbrev pub IsOwn : Membership ℕ → HandOut → Type 0
-IsOwn membership hand_out = hand_out.code ≡ None → IsInGroup membership hand_out.slot
+IsOwn membership hand_out = hand_out.outcome ≡ Unacknowledged → IsInGroup membership hand_out.slot
 
 pub record Kept (solo : SoloState) : Type 0 where
   pub small : AllByRecursion IsSmall (unacknowledged solo)
@@ -74,15 +75,16 @@ may_own (Leaving own) slot hand_out may its none = sym may ∙ its none
 leaving_own : (membership : Membership ℕ) (slot : ℕ) (hand_out : HandOut) → membership ≡ Member slot → IsOwn membership hand_out → IsOwn (Leaving slot) hand_out
 leaving_own membership slot hand_out is its none = subst (λ (m : Membership ℕ). IsInGroup m hand_out.slot) is (its none)
 
--- where nothing is unacknowledged, all hand-outs have a code
-none_first : (membership : Membership ℕ) (slot : ℕ) (subscription : Option ℕ) (identifier : ℕ) (code : Option ℕ) (hand_outs : List HandOut) → open_identifiers (handed slot subscription identifier code ∷ hand_outs) ≡ []
-    → (open_identifiers hand_outs ≡ [] → AllByRecursion (IsOwn membership) hand_outs) → AllByRecursion (IsOwn membership) (handed slot subscription identifier code ∷ hand_outs)
-none_first membership slot subscription identifier None hand_outs none later = absurd cc
-none_first membership slot subscription identifier (Some code) hand_outs none later = (λ e. absurd cc, later none)
+-- where nothing is unacknowledged, all hand-outs are settled
+none_first : (membership : Membership ℕ) (slot : ℕ) (subscription : Option ℕ) (identifier : ℕ) (outcome : Outcome) (hand_outs : List HandOut) → open_identifiers (handed slot subscription identifier outcome ∷ hand_outs) ≡ []
+    → (open_identifiers hand_outs ≡ [] → AllByRecursion (IsOwn membership) hand_outs) → AllByRecursion (IsOwn membership) (handed slot subscription identifier outcome ∷ hand_outs)
+none_first membership slot subscription identifier Unacknowledged hand_outs none later = absurd cc
+none_first membership slot subscription identifier (Acknowledged code) hand_outs none later = (λ e. absurd cc, later none)
+none_first membership slot subscription identifier Discarded hand_outs none later = (λ e. absurd cc, later none)
 
 none_open : (membership : Membership ℕ) (hand_outs : List HandOut) → open_identifiers hand_outs ≡ [] → AllByRecursion (IsOwn membership) hand_outs
 none_open membership [] none = tt
-none_open membership (h ∷ hand_outs) none = none_first membership h.slot h.subscription h.identifier h.code hand_outs none (λ e. none_open membership hand_outs e)
+none_open membership (h ∷ hand_outs) none = none_first membership h.slot h.subscription h.identifier h.outcome hand_outs none (λ e. none_open membership hand_outs e)
 
 -- ---- a message is accepted
 
@@ -143,7 +145,7 @@ kept_binding share solo k =
 
 -- ---- a PUBACK
 
-settled_own : (membership : Membership ℕ) (code : ℕ) (b : Bool) (hand_out : HandOut) → IsOwn membership hand_out → IsOwn membership (cond b (record hand_out { code = Some code }) hand_out)
+settled_own : (membership : Membership ℕ) (code : ℕ) (b : Bool) (hand_out : HandOut) → IsOwn membership hand_out → IsOwn membership (cond b (record hand_out { outcome = Acknowledged code }) hand_out)
 settled_own membership code true hand_out its none = absurd cc
 settled_own membership code false hand_out its none = its none
 
@@ -170,23 +172,51 @@ kept_settling identifier code solo k =
 
 -- ---- a hand-out
 
+-- what is unacknowledged then
+opens_behind : (unfit : Bool) (slot : ℕ) (solo : SoloState) → let used = unacknowledged solo in let next = least_free used in
+    open_identifiers (solo.handed_out ++ handed slot solo.subscription next (outcome_of unfit) ∷ []) ≡ used ++ cond unfit [] (next ∷ [])
+opens_behind true slot solo = open_discarded solo.handed_out slot solo.subscription (least_free (unacknowledged solo)) ∙ sym (append-nil (unacknowledged solo))
+opens_behind false slot solo = open_push solo.handed_out slot solo.subscription (least_free (unacknowledged solo))
+
+-- identifiers that are as they have to be, and one more
+record AreFree (used : List ℕ) (most : ℕ) : Type 0 where
+  small : AllByRecursion IsSmall used
+  distinct : AreDistinct used
+  room : length used ≤ most
+
+free_behind : (unfit : Bool) (used : List ℕ) (most : ℕ) → length used < most → most ≤ 256 → AreFree used most → AreFree (used ++ cond unfit [] (least_free used ∷ [])) most
+free_behind true used most less few free = subst (λ (l : List ℕ). AreFree l most) (sym (append-nil used)) free
+free_behind false used most less few free =
+    let next = least_free used in
+    let least = is_least used in
+    record {
+      small = all_push IsSmall used next free.small (least.not_zero, omega (arith, least_small used, less, few));
+      distinct = distinct_push used next free.distinct least.free;
+      room = omega (arith, length_push used next, less);
+    }
+
+few_at_once : (asked : ℕ) → min asked 256 ≤ 256
+few_at_once asked = omega arith
+
 pub kept_handing : (slot : ℕ) (message : Message) (rest : List Message) (solo : SoloState) → solo.phase ≡ Connected → solo.membership ≡ Member slot → length (unacknowledged solo) < quota solo → waiting_in slot solo ≡ message ∷ rest
-    → Kept solo → Kept (with_hand_out slot (least_free (unacknowledged solo)) solo)
+    → Kept solo → Kept (with_hand_out (next_hand_out slot message solo) solo)
 kept_handing slot message rest solo connected member less waits k =
     let used = unacknowledged solo in
-    let next = least_free used in
-    let behind = with_hand_out slot next solo in
-    let opens : unacknowledged behind ≡ used ++ next ∷ [] = open_push solo.handed_out slot solo.subscription next in
-    let least = is_least used in
+    let unfit = is_unfit message solo in
+    let one = next_hand_out slot message solo in
+    let behind = with_hand_out one solo in
+    let opens : unacknowledged behind ≡ used ++ cond unfit [] (least_free used ∷ []) = opens_behind unfit slot solo in
+    let free : AreFree (unacknowledged behind) (quota solo) =
+    subst (λ (l : List ℕ). AreFree l (quota solo)) (sym opens)
+    (free_behind unfit used (quota solo) less (few_at_once solo.terms.receive_maximum) (record { small = k.small; distinct = k.distinct; room = k.room })) in
     let some : length (waiting_in slot solo) ≡ suc (length rest) = ap length waits in
     let many = λ (s : SoloState). λ (at : ℕ). length-drop (length (handed_in at s.handed_out)) (accepted_in at s.groups) in
-    let one_more : length (handed_in slot behind.handed_out) ≡ length (handed_in slot solo.handed_out) + 1 =
-    ap length (handed_in_push_same solo.handed_out slot solo.subscription next) ∙ length_push (handed_in slot solo.handed_out) (handed slot solo.subscription next None) in
-    let others : (at : ℕ) → at ≢ slot → length (handed_in at behind.handed_out) ≡ length (handed_in at solo.handed_out) = λ at other. ap length (handed_in_push_other solo.handed_out slot solo.subscription at next (λ e. other (sym e))) in
+    let one_more : length (handed_in slot behind.handed_out) ≡ length (handed_in slot solo.handed_out) + 1 = ap length (handed_in_push_same solo.handed_out one) ∙ length_push (handed_in slot solo.handed_out) one in
+    let others : (at : ℕ) → at ≢ slot → length (handed_in at behind.handed_out) ≡ length (handed_in at solo.handed_out) = λ at other. ap length (handed_in_push_other solo.handed_out one at (λ e. other (sym e))) in
     record {
-      small = subst (AllByRecursion IsSmall) (sym opens) (all_push IsSmall used next k.small (least.not_zero, omega (arith, least_small used, less)));
-      distinct = subst AreDistinct (sym opens) (distinct_push used next k.distinct least.free);
-      room = omega (arith, ap length opens, length_push used next, less);
+      small = free.small;
+      distinct = free.distinct;
+      room = free.room;
       fresh = λ e. let f : Unconnected ≡ Connected = sym e ∙ connected in absurd cc;
       order = λ at.
           ⊎_elim
@@ -199,7 +229,7 @@ kept_handing slot message rest solo connected member less waits k =
           (λ (is : at ≡ slot). subst (λ (n : ℕ). length (waiting_in n behind) ≤ solo.capacity) (sym is) (omega (arith, one_more, some, many solo slot, many behind slot, k.fits slot)))
           (λ (other : at ≢ slot). omega (arith, others at other, many solo at, many behind at, k.fits at))
           (cases_eq at slot);
-      own = all_push (IsOwn solo.membership) solo.handed_out (handed slot solo.subscription next None) k.own (λ none. subst (λ (m : Membership ℕ). IsInGroup m slot) (sym member) refl);
+      own = all_push (IsOwn solo.membership) solo.handed_out one k.own (λ none. subst (λ (m : Membership ℕ). IsInGroup m slot) (sym member) refl);
       bound = k.bound;
     }
 

@@ -1,8 +1,9 @@
 -- What every run of a model keeps.
-use Rattle.std.proofs.Common.{◌≡◌, ◌≢◌, ◌⊎◌, ℕ, zero, suc, ◌-◌, ◌<◌, ◌≤◌, Option, min, List, [], ◌∷◌, ◌++◌, length, take, slice_get, Some, None, refl, sym, ap, ◌∙◌, subst, inl, inr, ⊎_elim, arith}
+use Rattle.std.proofs.Common.{◌≡◌, ◌≢◌, ◌⊎◌, ℕ, zero, suc, ◌-◌, ◌<◌, ◌≤◌, Option, min, List, [], ◌∷◌, ◌++◌, length, slice_get, Some, None, refl, sym, ap, ◌∙◌, subst, inl, inr, arith}
 use Rattle.std.specs.List.{AllByRecursion}
+use Rattle.std.proofs.lemmas.Bool.{cond_both}
 use Rattle.std.proofs.lemmas.List.{append-nil, append_assoc}
-use Rattle.std.proofs.lemmas.Option.{none-some, same_Some}
+use Rattle.std.proofs.lemmas.Option.{same_Some}
 use Rattle.std.proofs.lemmas.List.Elements.{filter-append}
 use Rattle.mqtt_fields.specs.declared.fault.StreamFault.{StreamFault}
 use Rattle.mqtt_packet.specs.declared.packet.Connect.{Connect}
@@ -17,14 +18,16 @@ use Rattle.conn_rules.specs.declared.connecting.FirstAnswer.TheVariants as first
 use Rattle.conn_rules.specs.Connecting.{or_else, connect_answer}
 use Rattle.conn_rules.specs.declared.setup.Setup.{Setup}
 use Rattle.solo_output.specs.Groups.{SoloState, HandOut, Phase, opening, accepted_in, waiting_in, open_identifiers, unacknowledged, with_hand_out}
+use Rattle.solo_output.specs.Groups.Outcome.{Unacknowledged, Acknowledged, Discarded}
 use Rattle.solo_output.specs.Groups.Phase.{Unconnected, Connected, Closed}
-use Rattle.solo_output.specs.HandOuts.{SoloStep, quota, least_free, due, hand_out, sends_nothing, left_with, deliver_to, deliver_in, deliver}
+use Rattle.solo_output.specs.HandOuts.{SoloStep, quota, has_room, next_hand_out, next_packets, sent_before, hand_out, sends_nothing, left_with, deliver_to, deliver_in, deliver}
 use Rattle.solo_output.specs.Publishing.{Reply}
 use Rattle.solo_output.specs.Replies.{first_reply_as, reply, reply_in, behind_reply, solo_step, solo_steps, farewell_in, farewell}
 use Rattle.solo_output.specs.Runs.{run_of, taken_in_phase, taken, is_publish, published, jobs_of, IsInGroup, IsStill, IsSettledBy}
 use Rattle.solo_output.proofs.Brokers.{accepted_first}
 use Rattle.solo_output.proofs.Sessions.{hand_out_keeps}
-use Rattle.solo_output.proofs.Moves.{Ways, due_behind, ran}
+use Rattle.solo_output.proofs.Moves.{Ways, ran}
+use Rattle.solo_output.proofs.NextOuts.{less_of, most_of, waiting_behind}
 use Rattle.solo_output.proofs.Kept.{Kept, IsOwn, kept_first, kept_replying, kept_handing, kept_turning, kept_ran}
 use Rattle.solo_output.proofs.Told.{SentAsHandedOut, told_replying, told_delivering}
 use Rattle.solo_output.proofs.Lasting.{settles_its, lasts_delivering}
@@ -112,23 +115,35 @@ told_all setup packets =
 
 -- ---- what settles a hand-out
 
-pub settles_one : (solo : SoloState) (puback : Puback) (place : ℕ) (one : HandOut) → solo.phase ≡ Connected → slice_get solo.handed_out place ≡ Some one → one.code ≡ None → puback.packet_identifier ≡ one.identifier
-    → (settled : HandOut) × (slice_get (solo_step (kinds.Puback puback) solo).solo.handed_out place ≡ Some settled) × IsStill one settled × (settled.code ≡ Some puback.reason_code)
+told_not : (code : ℕ) → Acknowledged code ≡ Discarded → ⊥
+told_not code e = absurd cc
+
+told_done : (code : ℕ) → Acknowledged code ≢ Unacknowledged
+told_done code e = absurd cc
+
+pub settles_one : (solo : SoloState) (puback : Puback) (place : ℕ) (one : HandOut) → solo.phase ≡ Connected → slice_get solo.handed_out place ≡ Some one → one.outcome ≡ Unacknowledged → puback.packet_identifier ≡ one.identifier
+    → (settled : HandOut) × (slice_get (solo_step (kinds.Puback puback) solo).solo.handed_out place ≡ Some settled) × IsStill one settled × (settled.outcome ≡ Acknowledged puback.reason_code)
 settles_one solo puback place one connected there none its =
     let r = (reply (kinds.Puback puback) solo).solo in
     let now = settles_its puback.packet_identifier puback.reason_code solo.handed_out place one there none its in
-    let replied : slice_get r.handed_out place ≡ Some (record one { code = Some puback.reason_code }) =
+    let replied : slice_get r.handed_out place ≡ Some (record one { outcome = Acknowledged puback.reason_code }) =
     ap (λ (p : Phase). slice_get (reply_in p (kinds.Puback puback) solo).solo.handed_out place) connected ∙ now in
-    let last = lasts_delivering r place (record one { code = Some puback.reason_code }) replied in (
+    let last = lasts_delivering r place (record one { outcome = Acknowledged puback.reason_code }) replied in (
       last.0,
       last.1,
-      record { slot = last.2.slot; subscription = last.2.subscription; identifier = last.2.identifier; for_good = λ code is. absurd (none-some code (sym none ∙ is)) },
-      last.2.for_good puback.reason_code refl,
+      record {
+        slot = last.2.slot;
+        subscription = last.2.subscription;
+        identifier = last.2.identifier;
+        for_good = λ done. absurd (done none);
+        at_once = λ is. absurd (told_not puback.reason_code (last.2.at_once is));
+      },
+      last.2.for_good (told_done puback.reason_code),
     )
 
 -- each code of a hand-out came by a PUBACK of these packets
 abbrev AreSettled : Setup → List Packet → SoloState → Type 0
-AreSettled setup packets solo = (place code : ℕ) (one : HandOut) → slice_get solo.handed_out place ≡ Some one → one.code ≡ Some code → IsSettledBy setup packets place code
+AreSettled setup packets solo = (place code : ℕ) (one : HandOut) → slice_get solo.handed_out place ≡ Some one → one.outcome ≡ Acknowledged code → IsSettledBy setup packets place code
 
 -- the packets that came before one, and that one
 settled_step : (setup : Setup) (before : List Packet) (packet : Packet) → let solo = (run_of setup before).solo in AreSettled setup before solo → AreSettled setup (before ++ packet ∷ []) (solo_step packet solo).solo
@@ -188,20 +203,14 @@ settled_all setup packets = settled_ran setup packets [] (λ place code one ther
 abbrev pub IsEager : ℕ → SoloState → Type 0
 IsEager slot solo = (waiting_in slot solo ≡ []) ⊎ (length (unacknowledged solo) ≡ quota solo)
 
-take_nothing : (n : ℕ) (messages : List Message) → [] ≡ take n messages → (messages ≡ []) ⊎ (n ≡ 0)
-take_nothing zero messages e = inr refl
-take_nothing (suc n) [] e = inl refl
-take_nothing (suc n) (message ∷ messages) e = absurd cc
-
-eager_out : (slot : ℕ) (messages : List Message) (solo : SoloState) → solo.phase ≡ Connected → solo.membership ≡ Member slot → Kept solo → messages ≡ due slot solo → IsEager slot (hand_out slot messages solo).solo
-eager_out slot [] solo connected member kept is =
-    ⊎_elim
-    (λ (none : waiting_in slot solo ≡ []). inl none)
-    (λ (full : quota solo - length (unacknowledged solo) ≡ 0). inr (omega (arith, full, kept.room)))
-    (take_nothing (quota solo - length (unacknowledged solo)) (waiting_in slot solo) is)
-eager_out slot (message ∷ messages) solo connected member kept is =
-    let behind = due_behind slot solo message messages is in
-    eager_out slot messages (with_hand_out slot (least_free (unacknowledged solo)) solo) connected member (kept_handing slot message behind.0 solo connected member behind.2 behind.1 kept) behind.3
+eager_out : (slot : ℕ) (messages : List Message) (solo : SoloState) → solo.phase ≡ Connected → solo.membership ≡ Member slot → Kept solo → waiting_in slot solo ≡ messages → IsEager slot (hand_out slot messages solo).solo
+eager_out slot [] solo connected member kept waits = inl waits
+eager_out slot (message ∷ messages) solo connected member kept waits =
+    let one = next_hand_out slot message solo in
+    let next = with_hand_out one solo in
+    cond_both (has_room solo) (sent_before (next_packets message solo) (hand_out slot messages next)) (sends_nothing solo) (λ s. IsEager slot s.solo)
+    (λ room. eager_out slot messages next connected member (kept_handing slot message messages solo connected member (less_of solo room) waits kept) (waiting_behind one solo message messages waits))
+    (λ full. inr (omega (arith, most_of solo full, kept.room)))
 
 same_slot : (own slot : ℕ) → ◌≡◌ {A = Membership ℕ} (Member own) (Member slot) → own ≡ slot
 same_slot own slot e = cc
@@ -213,8 +222,8 @@ left_none own slot (identifier ∷ identifiers) e = absurd cc
 eager_to : (membership : Membership ℕ) (solo : SoloState) (slot : ℕ) → solo.phase ≡ Connected → solo.membership ≡ membership → Kept solo → (deliver_to membership solo).solo.membership ≡ Member slot → IsEager slot (deliver_to membership solo).solo
 eager_to NotMember solo slot connected is kept member = let e : NotMember ≡ Member slot = sym is ∙ member in absurd cc
 eager_to (Member own) solo slot connected is kept member =
-    let same = same_slot own slot (sym is ∙ sym (hand_out_keeps own (due own solo) solo).membership ∙ member) in
-    subst (λ (n : ℕ). IsEager n (deliver_to (Member own) solo).solo) same (eager_out own (due own solo) solo connected is kept refl)
+    let same = same_slot own slot (sym is ∙ sym (hand_out_keeps own (waiting_in own solo) solo).membership ∙ member) in
+    subst (λ (n : ℕ). IsEager n (deliver_to (Member own) solo).solo) same (eager_out own (waiting_in own solo) solo connected is kept refl)
 eager_to (Leaving own) solo slot connected is kept member = absurd (left_none own slot (unacknowledged solo) member)
 
 -- only what is connected can go on
@@ -235,29 +244,36 @@ eager_ran (packet ∷ packets) solo kept eager =
 pub eager_all : (setup : Setup) (packets : List Packet) (slot : ℕ) → (run_of setup packets).solo.phase ≡ Connected → (run_of setup packets).solo.membership ≡ Member slot → IsEager slot (run_of setup packets).solo
 eager_all setup packets = eager_ran packets (opening setup.capacity setup.max_inflight setup.groups) (kept_first setup.capacity setup.max_inflight setup.groups) (λ slot connected member. absurd cc)
 
--- ---- the Receive Maximum of the CONNECT
+-- ---- the Receive Maximum and the Maximum Packet Size of the CONNECT
 
-abbrev AsksTheSame : SoloState → SoloState → Type 0
-AsksTheSame one two = one.phase ≢ Unconnected → (two.phase ≢ Unconnected) × (two.terms.receive_maximum ≡ one.terms.receive_maximum)
+abbrev pub AsksTheSame : SoloState → SoloState → Type 0
+AsksTheSame one two =
+    one.phase ≢ Unconnected → (two.phase ≢ Unconnected) × (two.terms.receive_maximum ≡ one.terms.receive_maximum) × (two.terms.maximum_packet_size ≡ one.terms.maximum_packet_size)
 
 asks_the_same : Ways AsksTheSame
 asks_the_same =
     record {
-      stays = λ solo begun. (begun, refl);
-      goes_on = λ one two three first' later begun. let behind = first' begun in let last = later behind.0 in (last.0, last.1 ∙ behind.1);
+      stays = λ solo begun. (begun, refl, refl);
+      goes_on = λ one two three first' later begun. let behind = first' begun in let last = later behind.0 in (last.0, last.1 ∙ behind.1, last.2 ∙ behind.2);
       connects = λ connect solo is begun. absurd (begun is);
-      closes = λ solo begun. (λ e. absurd cc, refl);
-      expires = λ expiry solo begun. (begun, refl);
-      binds = λ share solo none few begun. (begun, refl);
-      joins = λ slot solo may within begun. (begun, refl);
-      leaves = λ slot solo is begun. (begun, refl);
-      parts = λ slot solo is none begun. (begun, refl);
-      subscribes = λ subscription solo begun. (begun, refl);
+      closes = λ solo begun. (λ e. absurd cc, refl, refl);
+      expires = λ expiry solo begun. (begun, refl, refl);
+      binds = λ share solo none few begun. (begun, refl, refl);
+      joins = λ slot solo may within begun. (begun, refl, refl);
+      leaves = λ slot solo is begun. (begun, refl, refl);
+      parts = λ slot solo is none begun. (begun, refl, refl);
+      subscribes = λ subscription solo begun. (begun, refl, refl);
     }
 
-asked_ran : (packets : List Packet) (solo : SoloState) → AsksTheSame solo (solo_steps packets solo).solo
+pub asked_ran : (packets : List Packet) (solo : SoloState) → AsksTheSame solo (solo_steps packets solo).solo
 asked_ran =
-    ran AsksTheSame asks_the_same (λ slot message solo within room begun. (begun, refl)) (λ identifier code solo begun. (begun, refl)) (λ slot message rest solo connected member less waits begun. (begun, refl))
+    ran AsksTheSame asks_the_same (λ slot message solo within room begun. (begun, refl, refl)) (λ identifier code solo begun. (begun, refl, refl)) (λ slot message rest solo connected member less waits begun. (begun, refl, refl))
+
+-- a connection that is closed stays as it is
+pub stays_closed : (packets : List Packet) (r : Reply) → r.solo.phase ≡ Closed → (solo_steps packets (behind_reply r).solo).solo ≡ r.solo
+stays_closed packets r closed' =
+    let stays : (deliver r.solo).solo ≡ r.solo = ap (λ (p : Phase). (deliver_in p r.solo).solo) closed' in
+    ap (λ (s : SoloState). (solo_steps packets s).solo) stays ∙ ap (λ (t : SoloStep). t.solo) (closed_steps packets r.solo closed')
 
 least_of : (n m : ℕ) → min n m ≤ n
 least_of n m = omega arith
@@ -275,8 +291,7 @@ module _ (setup : Setup) (connect : Connect) (packets : List Packet) where
 
   refused : (r : Reply) → r.solo.phase ≡ Closed → r.solo.handed_out ≡ [] → Within (solo_steps packets (behind_reply r).solo).solo
   refused r closed' none =
-      let stays : (deliver r.solo).solo ≡ r.solo = ap (λ (p : Phase). (deliver_in p r.solo).solo) closed' in
-      let last : (solo_steps packets (behind_reply r).solo).solo ≡ r.solo = ap (λ (s : SoloState). (solo_steps packets s).solo) stays ∙ ap (λ (t : SoloStep). t.solo) (closed_steps packets r.solo closed') in
+      let last = stays_closed packets r closed' in
       let few : length (unacknowledged (solo_steps packets (behind_reply r).solo).solo) ≡ 0 = ap (λ (s : SoloState). length (unacknowledged s)) last ∙ ap (λ (hs : List HandOut). length (open_identifiers hs)) none in
       (omega arith, λ connected. let e : Closed ≡ Connected = sym closed' ∙ sym (ap (λ (s : SoloState). s.phase) last) ∙ connected in absurd cc)
 
@@ -305,14 +320,14 @@ silent solo packets closed' = (closed_steps packets solo closed', λ fault. ap (
 
 -- ---- whose is what is unacknowledged
 
-own_at : (membership : Membership ℕ) (hand_outs : List HandOut) (place : ℕ) (one : HandOut) → AllByRecursion (IsOwn membership) hand_outs → slice_get hand_outs place ≡ Some one → one.code ≡ None → IsInGroup membership one.slot
+own_at : (membership : Membership ℕ) (hand_outs : List HandOut) (place : ℕ) (one : HandOut) → AllByRecursion (IsOwn membership) hand_outs → slice_get hand_outs place ≡ Some one → one.outcome ≡ Unacknowledged → IsInGroup membership one.slot
 own_at membership [] place one all there none = absurd (none_first place one there)
 own_at membership (other ∷ hand_outs) zero one all there none =
     let same : other ≡ one = same_Some other one there in
-    subst (λ (h : HandOut). IsInGroup membership h.slot) same (all.0 (ap (λ (h : HandOut). h.code) same ∙ none))
+    subst (λ (h : HandOut). IsInGroup membership h.slot) same (all.0 (ap (λ (h : HandOut). h.outcome) same ∙ none))
 own_at membership (other ∷ hand_outs) (suc place) one all there none = own_at membership hand_outs place one all.1 there none
 
-pub own_all : (setup : Setup) (packets : List Packet) (place : ℕ) (one : HandOut) → let solo = (run_of setup packets).solo in slice_get solo.handed_out place ≡ Some one → one.code ≡ None → IsInGroup solo.membership one.slot
+pub own_all : (setup : Setup) (packets : List Packet) (place : ℕ) (one : HandOut) → let solo = (run_of setup packets).solo in slice_get solo.handed_out place ≡ Some one → one.outcome ≡ Unacknowledged → IsInGroup solo.membership one.slot
 own_all setup packets place one there none = own_at (run_of setup packets).solo.membership (run_of setup packets).solo.handed_out place one (kept_of setup packets).own there none
 
 pub bound_all : (setup : Setup) (packets : List Packet) (slot : ℕ) → let solo = (run_of setup packets).solo in IsInGroup solo.membership slot → slot < length solo.groups

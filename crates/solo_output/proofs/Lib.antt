@@ -5,6 +5,7 @@ pub mod Groups
 pub mod Reported
 pub mod Brokers
 pub mod Publishes
+pub mod NextOuts
 pub mod Hands
 pub mod Settles
 pub mod Desks
@@ -25,6 +26,7 @@ pub mod Taken
 pub mod Lasting
 pub mod StepLaws
 pub mod Lawful
+pub mod Unfit
 pub mod Grouped
 pub mod Joined
 pub mod Left

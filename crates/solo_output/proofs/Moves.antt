@@ -1,5 +1,5 @@
 -- The moves of which the steps of a model are made: what holds of each, and of two one after the other, holds of every step.
-use Rattle.std.proofs.Common.{◌≡◌, ℕ, zero, suc, ◌+◌, ◌-◌, ◌<◌, nat_lt, true, false, List, [], ◌∷◌, length, take, drop, Option, Some, None, Result, Ok, Err, refl, sym, ap, ◌∙◌, subst, arith, eqb-true, ltb-true}
+use Rattle.std.proofs.Common.{◌≡◌, ℕ, ◌<◌, nat_lt, true, false, List, [], ◌∷◌, length, Option, Some, None, Result, Ok, Err, refl, sym, ap, subst, arith, eqb-true, ltb-true}
 use Rattle.std.specs.List.{AllByRecursion}
 use Rattle.std.proofs.lemmas.Bool.{cond_both}
 use Rattle.std.proofs.lemmas.List.{length_push}
@@ -27,13 +27,13 @@ use Rattle.conn_rules.specs.Packets.{disconnect as disconnecting}
 use Rattle.conn_rules.specs.Publishing.{publish_answer, message_of}
 use Rattle.conn_rules.specs.Subscribing.{entry_answer, subscribe_refusal, unsubscribe_refusal}
 use Rattle.conn_supply.specs.Subscribing.{subscription_after}
-use Rattle.solo_output.specs.Groups.{SoloState, Phase, bound, shares_of, accepted_in, handed_in, waiting_in, unacknowledged, with_phase, with_membership, with_subscription, with_message, with_share, with_puback, with_hand_out}
+use Rattle.solo_output.specs.Groups.{SoloState, Phase, bound, shares_of, waiting_in, unacknowledged, with_phase, with_membership, with_subscription, with_message, with_share, with_puback, with_hand_out}
 use Rattle.solo_output.specs.Groups.Phase.{Unconnected, Connected, Closed}
-use Rattle.solo_output.specs.HandOuts.{quota, least_free, due, hand_out, left_with, deliver_to, deliver_in, deliver}
+use Rattle.solo_output.specs.HandOuts.{quota, has_room, next_hand_out, next_packets, sent_before, sends_nothing, hand_out, left_with, deliver_to, deliver_in, deliver}
 use Rattle.solo_output.specs.Publishing.{closing, is_full, matching, offer_to, taken_too, publish_reply_as}
 use Rattle.solo_output.specs.Subscribing.{coded, enter, is_slot, stay, join_as, entry_reply, join_all, leave_as, leave, leave_all, subscribe_reply_as, unsubscribe_reply_as}
 use Rattle.solo_output.specs.Replies.{attach_reply, first_reply_as, with_expiry, disconnect_reply, later_reply, reply_in, reply, solo_step, solo_steps}
-use Rattle.solo_output.proofs.Lists.{handed, open_push, handed_in_push_same, drop_cons}
+use Rattle.solo_output.proofs.NextOuts.{less_of, waiting_behind}
 use Rattle.solo_output.proofs.Brokers.{length-shares}
 use Rattle.solo_output.proofs.Publishes.{matching_below, below_still}
 use Rattle.solo_output.proofs.Subscribes.{position_below}
@@ -66,27 +66,7 @@ Settles R = (identifier code : ℕ) (solo : SoloState) → R solo (with_puback i
 abbrev pub Hands : (SoloState → SoloState → Type 0) → Type 0
 Hands R =
     (slot : ℕ) (message : Message) (rest : List Message) (solo : SoloState) → solo.phase ≡ Connected → solo.membership ≡ Member slot → length (unacknowledged solo) < quota solo → waiting_in slot solo ≡ message ∷ rest
-    → R solo (with_hand_out slot (least_free (unacknowledged solo)) solo)
-
--- the first of some of a list is the first of it
-pub taken_first : (n : ℕ) (xs : List Message) (x : Message) (ys : List Message) → x ∷ ys ≡ take n xs → (rest : List Message) × (less : ℕ) × (xs ≡ x ∷ rest) × (n ≡ suc less) × (ys ≡ take less rest)
-taken_first zero xs x ys e = absurd cc
-taken_first (suc n) [] x ys e = absurd cc
-taken_first (suc n) (first' ∷ xs) x ys e = (xs, n, cc, refl, cc)
-
--- what is due after a hand-out
-pub due_behind : (slot : ℕ) (solo : SoloState) (message : Message) (messages : List Message) → message ∷ messages ≡ due slot solo
-    → (rest : List Message) × (waiting_in slot solo ≡ message ∷ rest) × (length (unacknowledged solo) < quota solo) × (messages ≡ due slot (with_hand_out slot (least_free (unacknowledged solo)) solo))
-due_behind slot solo message messages is =
-    let next = least_free (unacknowledged solo) in
-    let hand_outs = handed_in slot solo.handed_out in
-    let accepted = accepted_in slot solo.groups in
-    let first' = taken_first (quota solo - length (unacknowledged solo)) (waiting_in slot solo) message messages is in
-    let more : length (unacknowledged (with_hand_out slot next solo)) ≡ length (unacknowledged solo) + 1 = ap length (open_push solo.handed_out slot solo.subscription next) ∙ length_push (unacknowledged solo) next in
-    let longer : length (handed_in slot (with_hand_out slot next solo).handed_out) ≡ length hand_outs + 1 = ap length (handed_in_push_same solo.handed_out slot solo.subscription next) ∙ length_push hand_outs (handed slot solo.subscription next None) in
-    let left : waiting_in slot (with_hand_out slot next solo) ≡ first'.0 = ap (λ (n : ℕ). drop n accepted) longer ∙ (drop_cons (length hand_outs) accepted message first'.0 first'.2).1 in
-    let many : first'.1 ≡ quota solo - length (unacknowledged (with_hand_out slot next solo)) = omega (arith, more, first'.3) in
-    (first'.0, first'.2, omega (arith, first'.3), first'.4 ∙ (λ i. take (many i) (sym left i)))
+    → R solo (with_hand_out (next_hand_out slot message solo) solo)
 
 module _ (R : SoloState → SoloState → Type 0) (ways : Ways R) where
   -- ---- a SUBSCRIBE, an UNSUBSCRIBE
@@ -133,8 +113,8 @@ module _ (R : SoloState → SoloState → Type 0) (ways : Ways R) where
   joins_all : (entries : List Subscription) (solo : SoloState) → R solo (join_all entries solo).solo
   joins_all [] solo = ways.stays solo
   joins_all (entry ∷ entries) solo =
-      let next = (entry_reply (entry_answer entry solo.terms) solo).solo in
-      ways.goes_on solo next (join_all entries next).solo (enters_as (entry_answer entry solo.terms) solo) (joins_all entries next)
+      let next = (entry_reply (entry_answer entry) solo).solo in
+      ways.goes_on solo next (join_all entries next).solo (enters_as (entry_answer entry) solo) (joins_all entries next)
 
   pub subscribes : (refusal : Option ℕ) (subscribe : Subscribe) (solo : SoloState) → R solo (subscribe_reply_as refusal subscribe solo).solo
   subscribes (Some code) subscribe solo = ways.closes solo
@@ -243,16 +223,20 @@ module _ (R : SoloState → SoloState → Type 0) (ways : Ways R) (accepts : Acc
 -- ---- what goes out after a reply
 
 module _ (R : SoloState → SoloState → Type 0) (ways : Ways R) (hands : Hands R) where
-  pub hands_out : (slot : ℕ) (messages : List Message) (solo : SoloState) → solo.phase ≡ Connected → solo.membership ≡ Member slot → messages ≡ due slot solo → R solo (hand_out slot messages solo).solo
-  hands_out slot [] solo connected is due' = ways.stays solo
-  hands_out slot (message ∷ messages) solo connected is due' =
-      let next = with_hand_out slot (least_free (unacknowledged solo)) solo in
-      let behind = due_behind slot solo message messages due' in
-      ways.goes_on solo next (hand_out slot messages next).solo (hands slot message behind.0 solo connected is behind.2 behind.1) (hands_out slot messages next connected is behind.3)
+  pub hands_out : (slot : ℕ) (messages : List Message) (solo : SoloState) → solo.phase ≡ Connected → solo.membership ≡ Member slot → waiting_in slot solo ≡ messages → R solo (hand_out slot messages solo).solo
+  hands_out slot [] solo connected is waits = ways.stays solo
+  hands_out slot (message ∷ messages) solo connected is waits =
+      let one = next_hand_out slot message solo in
+      let next = with_hand_out one solo in
+      cond_both (has_room solo) (sent_before (next_packets message solo) (hand_out slot messages next)) (sends_nothing solo) (λ s. R solo s.solo)
+      (λ room.
+      ways.goes_on solo next (hand_out slot messages next).solo (hands slot message messages solo connected is (less_of solo room) waits)
+      (hands_out slot messages next connected is (waiting_behind one solo message messages waits)))
+      (λ full. ways.stays solo)
 
   delivers_to : (membership : Membership ℕ) (solo : SoloState) → solo.phase ≡ Connected → solo.membership ≡ membership → R solo (deliver_to membership solo).solo
   delivers_to NotMember solo connected is = ways.stays solo
-  delivers_to (Member slot) solo connected is = hands_out slot (due slot solo) solo connected is refl
+  delivers_to (Member slot) solo connected is = hands_out slot (waiting_in slot solo) solo connected is refl
   delivers_to (Leaving slot) solo connected is = left R ways slot solo is (unacknowledged solo) refl
 
   delivers_in : (phase : Phase) (solo : SoloState) → solo.phase ≡ phase → R solo (deliver_in phase solo).solo

@@ -20,7 +20,7 @@ use Rattle.solo_output.specs.Replies.{solo_steps}
 use Rattle.solo_output.specs.Report.{report_of, reports_from, reports}
 use Rattle.solo_output.specs.Streams.{stream_of}
 use Rattle.solo_output.specs.Output.{lines_for, solo_output, IsOutputFor}
-use Rattle.solo_output.proofs.Brokers.{length-shares}
+use Rattle.solo_output.proofs.Brokers.{FitsBroker, length-shares}
 use Rattle.solo_output.proofs.Ends.{ShowsEnd, line_told}
 use Rattle.solo_output.proofs.Streams.{whole, cut, bad_lines}
 use Rattle.solo_output.proofs.Walk.{sent_in, Concluded, run}
@@ -62,14 +62,14 @@ lines_are : (said : List StepOutput) → flat_map client_lines said ≡ lines_fo
 lines_are [] = refl
 lines_are (one ∷ said) = ap (λ (l : List ℕ). client_lines one ++ l) (lines_are said) ∙ sym (flat_map-append _ one.packets (sent_in said))
 
-pub closed : (setup : Setup) (input output : List ℕ) → length setup.groups ≤ 8 → IsClientOutput setup input output → IsOutputFor setup input output
-closed setup input output few is =
+pub closed : (setup : Setup) (input output : List ℕ) → FitsBroker setup.capacity setup.groups → IsClientOutput setup input output → IsOutputFor setup input output
+closed setup input output fits is =
     let cut_up = cut input is.events is.spelled in
     let t = is.transcript in
     let happens = subst (λ (es : List TimedEvent). HappensAll t.first es t.said t.last) cut_up.events_are t.happens in
     let got =
     subst (λ (limit : ℕ). Concluded (opening setup.capacity limit setup.groups) (whole cut_up.pieces) (sent_in t.said) t.last.broker) t.new.max_inflight
-    (run setup.capacity setup.groups few cut_up.pieces t.first t.last t.said t.new.broker t.new.clients cut_up.bytes happens) in
+    (run setup.capacity setup.groups fits cut_up.pieces t.first t.last t.said t.new.broker t.new.clients cut_up.bytes happens) in
     let behind = solo_steps got.packets (opening setup.capacity setup.max_inflight setup.groups) in
     record {
       stream = whole cut_up.pieces;
@@ -88,21 +88,21 @@ is_ok : {A E : Type 0} (x y : A) → ◌≡◌ {A = Result A E} (Ok x) (Ok y) �
 is_ok x y e = cc
 
 -- whatever the stream is read as
-pub of_each : (setup : Setup) (input output stream : List ℕ) (packets : List Packet) (rest : List ℕ) (fault : Option StreamFault) → length setup.groups ≤ 8 → IsClientOutput setup input output → stream_of input ≡ Ok stream → Reads stream packets rest fault
+pub of_each : (setup : Setup) (input output stream : List ℕ) (packets : List Packet) (rest : List ℕ) (fault : Option StreamFault) → FitsBroker setup.capacity setup.groups → IsClientOutput setup input output → stream_of input ≡ Ok stream → Reads stream packets rest fault
     → output ≡ solo_output setup packets fault
-of_each setup input output stream packets rest fault few is spelled reads =
-    let got = closed setup input output few is in
+of_each setup input output stream packets rest fault fits is spelled reads =
+    let got = closed setup input output fits is in
     let same : got.stream ≡ stream = is_ok got.stream stream (sym got.spelled ∙ spelled) in
     let one = one_reading stream got.packets got.rest got.fault packets rest fault (subst (λ (s : List ℕ). Reads s got.packets got.rest got.fault) same got.reads) reads in
     got.text ∙ (λ i. solo_output setup (one.0 i) (one.2 i))
 
 -- ---- what is written
 
-pub written : (setup : Setup) (input : List ℕ) (old new : Option (List ℕ)) → length setup.groups ≤ 8 → Writes (IsClientOutput setup input) old new → Writes (IsOutputFor setup input) old new
-written setup input old new few does = record { output = does.output; defined_by = closed setup input does.output few does.defined_by; written = does.written }
+pub written : (setup : Setup) (input : List ℕ) (old new : Option (List ℕ)) → FitsBroker setup.capacity setup.groups → Writes (IsClientOutput setup input) old new → Writes (IsOutputFor setup input) old new
+written setup input old new fits does = record { output = does.output; defined_by = closed setup input does.output fits does.defined_by; written = does.written }
 
-pub begun : (setup : Setup) (input : List ℕ) (old new : Option (List ℕ)) → length setup.groups ≤ 8 → BeginsTo (IsClientOutput setup input) old new → BeginsTo (IsOutputFor setup input) old new
-begun setup input old new few does = record { output = does.output; defined_by = closed setup input does.output few does.defined_by; begun = does.begun }
+pub begun : (setup : Setup) (input : List ℕ) (old new : Option (List ℕ)) → FitsBroker setup.capacity setup.groups → BeginsTo (IsClientOutput setup input) old new → BeginsTo (IsOutputFor setup input) old new
+begun setup input old new fits does = record { output = does.output; defined_by = closed setup input does.output fits does.defined_by; begun = does.begun }
 
 -- ---- there is one output
 

@@ -2,9 +2,9 @@
 use Rattle.std.proofs.Common.{◌≡◌, ◌≢◌, ◌⊎◌, ℕ, List, [], ◌∷◌, refl, sym, ◌∙◌, inl, inr, ⊎_elim}
 use Rattle.session_desk.specs.declared.session.Membership.{Membership}
 use Rattle.session_desk.specs.declared.session.Membership.TheVariants.{NotMember, Member, Leaving}
-use Rattle.solo_output.specs.Groups.{SoloState, Phase, unacknowledged, with_membership}
+use Rattle.solo_output.specs.Groups.{SoloState, Phase, unacknowledged, with_membership, waiting_in}
 use Rattle.solo_output.specs.Groups.Phase.{Unconnected, Connected, Closed}
-use Rattle.solo_output.specs.HandOuts.{due, hand_out, left_with, deliver_to, deliver_in, deliver}
+use Rattle.solo_output.specs.HandOuts.{hand_out, left_with, deliver_to, deliver_in, deliver}
 use Rattle.solo_output.proofs.Sessions.{hand_out_keeps}
 
 pub record Delivers (one two : SoloState) : Type 0 where
@@ -61,7 +61,7 @@ delivers_left own solo (identifier ∷ identifiers) is some =
 delivers_to : (membership : Membership ℕ) (solo : SoloState) → solo.membership ≡ membership → Delivers solo (deliver_to membership solo).solo
 delivers_to NotMember solo is = delivers_same solo solo refl (λ slot e. let no' : NotMember ≡ Leaving slot = sym is ∙ e in absurd cc)
 delivers_to (Member own) solo is =
-    delivers_same solo (hand_out own (due own solo) solo).solo (hand_out_keeps own (due own solo) solo).membership (λ slot e. let no' : Member own ≡ Leaving slot = sym is ∙ e in absurd cc)
+    delivers_same solo (hand_out own (waiting_in own solo) solo).solo (hand_out_keeps own (waiting_in own solo) solo).membership (λ slot e. let no' : Member own ≡ Leaving slot = sym is ∙ e in absurd cc)
 delivers_to (Leaving own) solo is = delivers_left own solo (unacknowledged solo) is refl
 
 delivers_in : (phase : Phase) (solo : SoloState) → solo.phase ≡ phase → Delivers solo (deliver_in phase solo).solo
@@ -75,7 +75,7 @@ delivers solo = delivers_in solo.phase solo refl
 -- hand-outs change no Subscription Identifier
 under_to : (membership : Membership ℕ) (solo : SoloState) → (deliver_to membership solo).solo.subscription ≡ solo.subscription
 under_to NotMember solo = refl
-under_to (Member own) solo = (hand_out_keeps own (due own solo) solo).subscription
+under_to (Member own) solo = (hand_out_keeps own (waiting_in own solo) solo).subscription
 under_to (Leaving own) solo = refl
 
 under_in : (phase : Phase) (solo : SoloState) → (deliver_in phase solo).solo.subscription ≡ solo.subscription

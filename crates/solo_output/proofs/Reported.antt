@@ -46,10 +46,10 @@ sum_first (x ∷ xs) n some first others =
     let rest : sum xs ≡ 0 = all_zero xs (λ k less. others (suc k) (omega arith) (omega arith)) in
     omega (arith, sum_by-cons (λ (m : ℕ). m) x xs, first, rest)
 
-abbrev pub fates_are : ℕ → ℕ → ℕ → ℕ → ℕ → Fates
-fates_are good bad held queued returned = record { acknowledged = good; refused = bad; held = held; queued = queued; returned = returned; discarded = 0 }
+abbrev pub fates_are : ℕ → ℕ → ℕ → ℕ → ℕ → ℕ → Fates
+fates_are good bad off held queued returned = record { acknowledged = good; refused = bad; held = held; queued = queued; returned = returned; discarded = off }
 
-module _ (accepted good bad queued returned slot : ℕ) (entries : List (ℕ × Held)) (group : Group) (is : IsEnding accepted good bad queued returned slot entries group) (report : Report) (reports : Reports group report) where
+module _ (accepted good bad off queued returned slot : ℕ) (entries : List (ℕ × Held)) (group : Group) (is : IsEnding accepted good bad off queued returned slot entries group) (report : Report) (reports : Reports group report) where
   through : (port : ℕ) → port < 64 → slice_index_or report.accepted.items port 0 ≡ accepted_of group.state port
   through port small = reports.accepted port small
 
@@ -66,8 +66,8 @@ module _ (accepted good bad queued returned slot : ℕ) (entries : List (ℕ × 
   told_bad : length (settled_as Refused report.settled) ≡ bad
   told_bad = as_long (settled_as Refused report.settled) is.counted.bad.jobs (λ job. reports.settled Refused job ∙ sym (is.counted.bad.lists job)) ∙ is.counted.bad.long
 
-  told_off : length (settled_as Discarded report.settled) ≡ 0
-  told_off = as_long (settled_as Discarded report.settled) [] (λ job. reports.settled Discarded job ∙ sym (is.counted.none_off job))
+  told_off : length (settled_as Discarded report.settled) ≡ off
+  told_off = as_long (settled_as Discarded report.settled) is.counted.off.jobs (λ job. reports.settled Discarded job ∙ sym (is.counted.off.lists job)) ∙ is.counted.off.long
 
   told_held : length report.held.items ≡ length entries
   told_held = as_long report.held.items (jobs_of entries) (λ job. reports.held job ∙ sym (is.counted.out_are job)) ∙ length-map entries (λ (e : ℕ × Held). job_of e.1.stamp)
@@ -78,7 +78,7 @@ module _ (accepted good bad queued returned slot : ℕ) (entries : List (ℕ × 
   told_returned : length report.returned.items ≡ returned
   told_returned = ap length reports.back ∙ length-map group.returned (λ (w : Waiting). w.job) ∙ is.back
 
-  pub line_is : (share : Share) → report_line share report ≡ line_of share accepted (fates_are good bad (length entries) queued returned)
+  pub line_is : (share : Share) → report_line share report ≡ line_of share accepted (fates_are good bad off (length entries) queued returned)
   unfolding report_line
   line_is share =
       λ i. share.text ++ labelled (codes " accepted ") (total i) ++ labelled (codes " acknowledged ") (told_good i)

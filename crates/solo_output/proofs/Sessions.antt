@@ -17,9 +17,9 @@ use Rattle.conn_engine.specs.declared.phase.ConnectedClient.{ConnectedClient}
 use Rattle.local_broker.specs.Places.{GroupPlace}
 use Rattle.local_broker.specs.Broker.{Broker}
 use Rattle.local_group.specs.Groups.{Group}
-use Rattle.solo_output.specs.Groups.{SoloState, HandOut, Phase, accepted_in, handed_in, with_hand_out, with_message, with_membership, with_subscription, with_phase, unacknowledged}
+use Rattle.solo_output.specs.Groups.{SoloState, Phase, accepted_in, handed_in, with_hand_out, with_message, with_membership, with_subscription, with_phase}
 use Rattle.solo_output.specs.Groups.Phase.{Connected}
-use Rattle.solo_output.specs.HandOuts.{hand_out, least_free}
+use Rattle.solo_output.specs.HandOuts.{has_room, next_hand_out, next_packets, sent_before, sends_nothing, hand_out}
 use Rattle.solo_output.specs.Publishing.{is_full, offer_to, taken_too}
 use Rattle.solo_output.proofs.Groups.{ShowsGroup}
 use Rattle.solo_output.proofs.Brokers.{ShowsBroker, entries_at}
@@ -80,8 +80,12 @@ kept solo = record { phase = refl; terms = refl; membership = refl; subscription
 pub hand_out_keeps : (slot : ℕ) (messages : List Message) (solo : SoloState) → Keeps solo (hand_out slot messages solo).solo
 hand_out_keeps slot [] solo = kept solo
 hand_out_keeps slot (message ∷ messages) solo =
-    let rest = hand_out_keeps slot messages (with_hand_out slot (least_free (unacknowledged solo)) solo) in
-    record { phase = rest.phase; terms = rest.terms; membership = rest.membership; subscription = rest.subscription }
+    let next = with_hand_out (next_hand_out slot message solo) solo in
+    cond_both (has_room solo) (sent_before (next_packets message solo) (hand_out slot messages next)) (sends_nothing solo) (λ s. Keeps solo s.solo)
+    (λ room.
+    let rest = hand_out_keeps slot messages next in
+    record { phase = rest.phase; terms = rest.terms; membership = rest.membership; subscription = rest.subscription })
+    (λ full. kept solo)
 
 pub record KeepsHanded (one other : SoloState) : Type 0 where
   pub same : Keeps one other

@@ -1,5 +1,5 @@
 -- A step of the one connection is a step of the model.
-use Rattle.std.proofs.Common.{◌≡◌, ◌⊎◌, ℕ, ◌≤◌, Bool, List, ◌++◌, length, Option, Some, None, refl, sym, ap, ◌∙◌, subst, inl, inr}
+use Rattle.std.proofs.Common.{◌≡◌, ◌⊎◌, ℕ, Bool, List, ◌++◌, Option, Some, None, refl, sym, ap, ◌∙◌, subst, inl, inr}
 use Rattle.std.specs.Option.{option_to_list}
 use Rattle.std.proofs.lemmas.List.{append-nil}
 use Rattle.mqtt_fields.specs.declared.fault.StreamFault.{StreamFault}
@@ -30,6 +30,7 @@ use Rattle.solo_output.specs.Groups.Phase.{Connected, Closed}
 use Rattle.solo_output.specs.HandOuts.{SoloStep, deliver_in}
 use Rattle.solo_output.specs.Publishing.{Reply}
 use Rattle.solo_output.specs.Replies.{first_reply, first_reply_as, attach_reply, later_reply, reply_in, behind_reply, solo_step, refused_by, farewell_in, farewell}
+use Rattle.solo_output.proofs.Brokers.{FitsBroker}
 use Rattle.solo_output.proofs.Sessions.{slot_at, ShowsSession, ShowsClient}
 use Rattle.solo_output.proofs.Desks.{not_kicked}
 use Rattle.solo_output.proofs.Answers.{Answered, answers}
@@ -106,9 +107,9 @@ refused_if None phase told does = (does.over, ap (λ (t : ConnReply). t.packet) 
 refused_if (Some refusal) phase told does = (does.over, ap (λ (t : ConnReply). t.packet) does.told)
 
 -- ---- before the CONNECT
-module _ (capacity : ℕ) (opened : Opening) (shares : List Share) (old : Broker) (is_new : IsNewBroker capacity shares old) (few : length shares ≤ 8) where
+module _ (capacity : ℕ) (opened : Opening) (shares : List Share) (old : Broker) (is_new : IsNewBroker capacity shares old) (fits : FitsBroker capacity shares) where
   ended : ShowsEnd (opening capacity opened.max_inflight shares) old
-  ended = ends_idle (opening capacity opened.max_inflight shares) old (opens capacity opened.max_inflight shares old few is_new)
+  ended = ends_idle (opening capacity opened.max_inflight shares) old (opens capacity opened.max_inflight shares old fits is_new)
 
   closed_first : (answer : Option Packet) (phase : ConnPhase GroupPlace) (told : ConnReply) (new : Broker) → phase ≡ phases.Ended → told ≡ record { packet = answer; next = Close } → new ≡ old
       → Reacted (record { packet = answer; solo = with_phase Closed (opening capacity opened.max_inflight shares) }) phase told new
@@ -126,7 +127,7 @@ module _ (capacity : ℕ) (opened : Opening) (shares : List Share) (old : Broker
   first_packet now first.Close packet phase told new does = closed_first None phase told new does.0.over does.0.told does.1
   first_packet now (first.Refuse refusal) packet phase told new does = closed_first _ phase told new does.0.over does.0.told does.1
   first_packet now first.Attach packet phase told new (connect, is, does) =
-      let b = attaches connect capacity opened.max_inflight shares now phase told old new is_new few does in
+      let b = attaches connect capacity opened.max_inflight shares now phase told old new is_new fits does in
       subst (λ (p : Packet). Reacted (attach_reply p (opening capacity opened.max_inflight shares)) phase told new) (sym is)
       (record { packet = ap (λ (t : ConnReply). t.packet) b.told; stands = inl (b.connected, b.stands, ap (λ (t : ConnReply). t.next) b.told, b.shows) })
 

@@ -1,5 +1,5 @@
 -- A step, by its packet: what it sends that is no hand-out, what each group accepts of it, and which hand-outs it settles.
-use Rattle.std.proofs.Common.{◌≡◌, ◌≢◌, ◌⊎◌, ℕ, zero, suc, ◌≤◌, false, List, [], ◌∷◌, ◌++◌, length, take, slice_get, Option, Some, None, refl, sym, ap, ◌∙◌, subst, inl, inr, ⊎_elim, arith}
+use Rattle.std.proofs.Common.{◌≡◌, ◌≢◌, ◌⊎◌, ℕ, zero, suc, ◌≤◌, Bool, true, false, List, [], ◌∷◌, ◌++◌, length, take, slice_get, Option, Some, None, refl, sym, ap, ◌∙◌, subst, inl, inr, ⊎_elim, arith}
 use Rattle.std.specs.Option.{option_to_list}
 use Rattle.std.proofs.lemmas.Bool.{cases_eq, cond_both}
 use Rattle.std.proofs.lemmas.List.{append-nil, append_assoc, length-map, length_push, take_all, take-append-le}
@@ -23,9 +23,10 @@ use Rattle.conn_rules.specs.Connecting.{first_answer, is_given_expiry}
 use Rattle.conn_rules.specs.Packets.{job, disconnect as disconnecting}
 use Rattle.conn_rules.specs.Publishing.{publish_answer}
 use Rattle.conn_rules.specs.Subscribing.{subscribe_refusal, unsubscribe_refusal}
-use Rattle.solo_output.specs.Groups.{SoloState, HandOut, Phase, accepted_in, open_identifiers, settled, unacknowledged, with_hand_out}
+use Rattle.solo_output.specs.Groups.{SoloState, HandOut, Phase, accepted_in, waiting_in, open_identifiers, settled, unacknowledged, with_hand_out}
+use Rattle.solo_output.specs.Groups.Outcome.{Unacknowledged, Acknowledged}
 use Rattle.solo_output.specs.Groups.Phase.{Unconnected, Connected, Closed}
-use Rattle.solo_output.specs.HandOuts.{SoloStep, least_free, due, hand_out, sends_nothing, deliver_to, deliver_in, deliver}
+use Rattle.solo_output.specs.HandOuts.{SoloStep, has_room, least_free, is_unfit, packets_unless, next_hand_out, next_packets, sent_before, hand_out, sends_nothing, deliver_to, deliver_in, deliver}
 use Rattle.solo_output.specs.Publishing.{Reply, closing, publish_reply_as}
 use Rattle.solo_output.specs.Subscribing.{subscribe_reply_as, unsubscribe_reply_as}
 use Rattle.solo_output.specs.Replies.{attach_reply, first_reply_as, with_expiry, disconnect_reply, later_reply, reply_in, reply, behind_reply, solo_step, solo_steps}
@@ -33,9 +34,9 @@ use Rattle.solo_output.specs.Runs.{taken_of_packet, taken_in_phase, is_publish, 
 use Rattle.solo_output.proofs.Brokers.{accepted_bound}
 use Rattle.member_window.specs.Identifiers.{IsLeastFree}
 use Rattle.solo_output.proofs.Identifiers.{is_least}
-use Rattle.solo_output.proofs.Lists.{handed}
+use Rattle.solo_output.proofs.NextOuts.{waiting_behind}
 use Rattle.solo_output.proofs.Sessions.{hand_out_keeps, offer_keeps}
-use Rattle.solo_output.proofs.Moves.{Ways, due_behind, subscribes, unsubscribes, disconnects, firsts, replied, delivered}
+use Rattle.solo_output.proofs.Moves.{Ways, subscribes, unsubscribes, disconnects, firsts, replied, delivered}
 use Rattle.solo_output.proofs.Taken.{takes_of}
 use Rattle.solo_output.proofs.Lasting.{came_from, coded_before, appends_handing}
 
@@ -67,12 +68,12 @@ sames =
 
 -- the code of a hand-out was there before, or this packet is its PUBACK
 abbrev pub ComesBy : Packet → HandOut → ℕ → Type 0
-ComesBy packet one told = (one.code ≡ Some told) ⊎ ((puback : Puback) × (packet ≡ kinds.Puback puback) × (one.code ≡ None) × (puback.packet_identifier ≡ one.identifier) × (puback.reason_code ≡ told))
+ComesBy packet one told = (one.outcome ≡ Acknowledged told) ⊎ ((puback : Puback) × (packet ≡ kinds.Puback puback) × (one.outcome ≡ Unacknowledged) × (puback.packet_identifier ≡ one.identifier) × (puback.reason_code ≡ told))
 
 pub record Answers (packet : Packet) (solo : SoloState) (takes : ℕ → List Message) (r : Reply) : Type 0 where
   pub quiet : published (option_to_list r.packet) ≡ []
   pub accepted : (slot : ℕ) → accepted_in slot r.solo.groups ≡ accepted_in slot solo.groups ++ takes slot
-  pub codes : (place told : ℕ) (other : HandOut) → slice_get r.solo.handed_out place ≡ Some other → other.code ≡ Some told → (one : HandOut) × (slice_get solo.handed_out place ≡ Some one) × ComesBy packet one told
+  pub codes : (place told : ℕ) (other : HandOut) → slice_get r.solo.handed_out place ≡ Some other → other.outcome ≡ Acknowledged told → (one : HandOut) × (slice_get solo.handed_out place ≡ Some one) × ComesBy packet one told
 
 -- nothing is accepted and nothing settled
 unmoved : (packet : Packet) (solo : SoloState) (r : Reply) → published (option_to_list r.packet) ≡ [] → Same solo r.solo → Answers packet solo (λ slot. []) r
@@ -172,19 +173,22 @@ answers_in Closed packet solo is = unmoved packet solo _ refl (sames.stays solo)
 pub answers : (packet : Packet) (solo : SoloState) → Answers packet solo (λ slot. taken_in_phase solo.phase packet slot solo) (reply packet solo)
 answers packet solo = answers_in solo.phase packet solo refl
 
+pub not_both : (told : ℕ) → Unacknowledged ≡ Acknowledged told → ⊥
+not_both told e = absurd cc
+
 -- a PUBACK settles only where the client is connected
-open_in : (phase : Phase) (puback : Puback) (solo : SoloState) (place told : ℕ) (one other : HandOut) → slice_get solo.handed_out place ≡ Some one → one.code ≡ None
-    → slice_get (reply_in phase (kinds.Puback puback) solo).solo.handed_out place ≡ Some other → other.code ≡ Some told → phase ≡ Connected
+open_in : (phase : Phase) (puback : Puback) (solo : SoloState) (place told : ℕ) (one other : HandOut) → slice_get solo.handed_out place ≡ Some one → one.outcome ≡ Unacknowledged
+    → slice_get (reply_in phase (kinds.Puback puback) solo).solo.handed_out place ≡ Some other → other.outcome ≡ Acknowledged told → phase ≡ Connected
 open_in Unconnected puback solo place told one other there none after coded =
     let same' : one ≡ other = same_Some one other (sym there ∙ after) in
-    absurd (none-some told (sym none ∙ ap (λ (h : HandOut). h.code) same' ∙ coded))
+    absurd (not_both told (sym none ∙ ap (λ (h : HandOut). h.outcome) same' ∙ coded))
 open_in Connected puback solo place told one other there none after coded = refl
 open_in Closed puback solo place told one other there none after coded =
     let same' : one ≡ other = same_Some one other (sym there ∙ after) in
-    absurd (none-some told (sym none ∙ ap (λ (h : HandOut). h.code) same' ∙ coded))
+    absurd (not_both told (sym none ∙ ap (λ (h : HandOut). h.outcome) same' ∙ coded))
 
-pub is_connected : (puback : Puback) (solo : SoloState) (place told : ℕ) (one other : HandOut) → slice_get solo.handed_out place ≡ Some one → one.code ≡ None
-    → slice_get (reply (kinds.Puback puback) solo).solo.handed_out place ≡ Some other → other.code ≡ Some told → solo.phase ≡ Connected
+pub is_connected : (puback : Puback) (solo : SoloState) (place told : ℕ) (one other : HandOut) → slice_get solo.handed_out place ≡ Some one → one.outcome ≡ Unacknowledged
+    → slice_get (reply (kinds.Puback puback) solo).solo.handed_out place ≡ Some other → other.outcome ≡ Acknowledged told → solo.phase ≡ Connected
 is_connected puback solo place told one other there none after coded = open_in solo.phase puback solo place told one other there none after coded
 
 -- ---- what goes out after it
@@ -192,7 +196,7 @@ is_connected puback solo place told one other there none after coded = open_in s
 -- nothing is accepted, and no code comes
 record Delivers (one two : SoloState) : Type 0 where
   accepted : (slot : ℕ) → accepted_in slot two.groups ≡ accepted_in slot one.groups
-  codes : (place told : ℕ) (other : HandOut) → slice_get two.handed_out place ≡ Some other → other.code ≡ Some told → slice_get one.handed_out place ≡ Some other
+  codes : (place told : ℕ) (other : HandOut) → slice_get two.handed_out place ≡ Some other → other.outcome ≡ Acknowledged told → slice_get one.handed_out place ≡ Some other
 
 delivers : Ways Delivers
 delivers =
@@ -214,29 +218,37 @@ delivering : (solo : SoloState) → Delivers solo (deliver solo).solo
 delivering =
     delivered Delivers delivers
     (λ slot message rest solo connected member less waits.
-    record { accepted = λ at. refl; codes = λ place told other there coded. coded_before slot solo.subscription (least_free (unacknowledged solo)) solo.handed_out place told other there coded })
+    record { accepted = λ at. refl; codes = λ place told other there coded. coded_before slot message solo place told other there coded })
 
 -- ---- a step
 
 pub step_accepts : (packet : Packet) (solo : SoloState) (slot : ℕ) → accepted_in slot (solo_step packet solo).solo.groups ≡ accepted_in slot solo.groups ++ taken_in_phase solo.phase packet slot solo
 step_accepts packet solo slot = (delivering (reply packet solo).solo).accepted slot ∙ (answers packet solo).accepted slot
 
-pub step_codes : (packet : Packet) (solo : SoloState) (place told : ℕ) (other : HandOut) → slice_get (solo_step packet solo).solo.handed_out place ≡ Some other → other.code ≡ Some told
+pub step_codes : (packet : Packet) (solo : SoloState) (place told : ℕ) (other : HandOut) → slice_get (solo_step packet solo).solo.handed_out place ≡ Some other → other.outcome ≡ Acknowledged told
     → (slice_get (reply packet solo).solo.handed_out place ≡ Some other) × ((one : HandOut) × (slice_get solo.handed_out place ≡ Some one) × ComesBy packet one told)
 step_codes packet solo place told other there coded =
     let before = (delivering (reply packet solo).solo).codes place told other there coded in
     (before, (answers packet solo).codes place told other before coded)
 
 -- hand-outs are PUBLISH packets, and nothing else that is sent is one
+some_published : (unfit : Bool) (message : Message) (subscription : Option ℕ) (identifier : ℕ) → published (packets_unless unfit (job false message subscription identifier)) ≡ packets_unless unfit (job false message subscription identifier)
+some_published true message subscription identifier = refl
+some_published false message subscription identifier = refl
+
 all_published : (slot : ℕ) (messages : List Message) (solo : SoloState) → published (hand_out slot messages solo).sent ≡ (hand_out slot messages solo).sent
 all_published slot [] solo = refl
 all_published slot (message ∷ messages) solo =
-    let next = least_free (unacknowledged solo) in
-    ap (λ (l : List Packet). job false message solo.subscription next ∷ l) (all_published slot messages (with_hand_out slot next solo))
+    let sent = next_packets message solo in
+    let later = hand_out slot messages (with_hand_out (next_hand_out slot message solo) solo) in
+    let first' : published sent ≡ sent = some_published (is_unfit message solo) message solo.subscription (least_free (unacknowledged solo)) in
+    cond_both (has_room solo) (sent_before sent later) (sends_nothing solo) (λ s. published s.sent ≡ s.sent)
+    (λ room. filter-append is_publish sent later.sent ∙ (λ i. first' i ++ all_published slot messages (with_hand_out (next_hand_out slot message solo) solo) i))
+    (λ full. refl)
 
 published_to : (membership : Membership ℕ) (solo : SoloState) → published (deliver_to membership solo).sent ≡ (deliver_to membership solo).sent
 published_to NotMember solo = refl
-published_to (Member slot) solo = all_published slot (due slot solo) solo
+published_to (Member slot) solo = all_published slot (waiting_in slot solo) solo
 published_to (Leaving slot) solo = refl
 
 published_in : (phase : Phase) (solo : SoloState) → published (deliver_in phase solo).sent ≡ (deliver_in phase solo).sent
@@ -275,37 +287,41 @@ take_front hand_outs later = take-append-le (length hand_outs) hand_outs later (
 abbrev GoesOut : ℕ → SoloState → ℕ → HandOut → Type 0
 GoesOut slot behind place other = (other.slot ≡ slot) × (other.subscription ≡ behind.subscription) × IsLeastFree (open_identifiers (take place behind.handed_out)) other.identifier
 
-members_of : (slot : ℕ) (messages : List Message) (solo : SoloState) → solo.phase ≡ Connected → solo.membership ≡ Member slot → messages ≡ due slot solo
+members_of : (slot : ℕ) (messages : List Message) (solo : SoloState) → solo.phase ≡ Connected → solo.membership ≡ Member slot → waiting_in slot solo ≡ messages
     → (place : ℕ) (other : HandOut) → length solo.handed_out ≤ place → slice_get (hand_out slot messages solo).solo.handed_out place ≡ Some other → GoesOut slot (hand_out slot messages solo).solo place other
-members_of slot [] solo connected member is place other past there = absurd (past_end solo place other past there)
-members_of slot (message ∷ messages) solo connected member is place other past there =
+members_of slot [] solo connected member waits place other past there = absurd (past_end solo place other past there)
+members_of slot (message ∷ messages) solo connected member waits place other past there =
     let next = least_free (unacknowledged solo) in
-    let behind = with_hand_out slot next solo in
+    let one = next_hand_out slot message solo in
+    let behind = with_hand_out one solo in
     let last = (hand_out slot messages behind).solo in
-    let rest = due_behind slot solo message messages is in
-    let one = handed slot solo.subscription next None in
+    let rest = waiting_behind one solo message messages waits in
+    cond_both (has_room solo) (sent_before (next_packets message solo) (hand_out slot messages behind)) (sends_nothing solo) (λ s. slice_get s.solo.handed_out place ≡ Some other → GoesOut slot s.solo place other)
+    (λ room there'.
     ⊎_elim
     (λ (here : place ≡ length solo.handed_out).
-    let later = appends_handing slot messages behind connected member rest.3 in
+    let later = appends_handing slot messages behind connected member rest in
     let all : last.handed_out ≡ solo.handed_out ++ one ∷ later.0 = later.1 ∙ append_assoc solo.handed_out (one ∷ []) later.0 in
     let got : slice_get last.handed_out place ≡ Some one =
     ap (slice_get last.handed_out) here ∙ ap (λ (l : List HandOut). slice_get l (length solo.handed_out)) later.1
     ∙ slice_get_front (solo.handed_out ++ one ∷ []) later.0 (length solo.handed_out) one (slice_get-push_same solo.handed_out one) in
-    let same' : one ≡ other = same_Some one other (sym got ∙ there) in
+    let same' : one ≡ other = same_Some one other (sym got ∙ there') in
     let before : take place last.handed_out ≡ solo.handed_out = (λ i. take (here i) (all i)) ∙ take_front solo.handed_out (one ∷ later.0) in (
       ap (λ (h : HandOut). h.slot) (sym same'),
       ap (λ (h : HandOut). h.subscription) (sym same') ∙ sym (hand_out_keeps slot messages behind).subscription,
       subst (λ (h : HandOut). IsLeastFree (open_identifiers (take place last.handed_out)) h.identifier) same'
           (subst (λ (l : List HandOut). IsLeastFree (open_identifiers l) next) (sym before) (is_least (unacknowledged solo))),
     ))
-    (λ (later : place ≢ length solo.handed_out). members_of slot messages behind connected member rest.3 place other (omega (arith, length_push solo.handed_out one, past, later)) there)
-    (cases_eq place (length solo.handed_out))
+    (λ (later : place ≢ length solo.handed_out). members_of slot messages behind connected member rest place other (omega (arith, length_push solo.handed_out one, past, later)) there')
+    (cases_eq place (length solo.handed_out)))
+    (λ full there'. absurd (past_end solo place other past there'))
+    there
 
 go_to : (membership : Membership ℕ) (solo : SoloState) → solo.phase ≡ Connected → solo.membership ≡ membership → GoTo solo (deliver_to membership solo).solo
 go_to NotMember solo connected is place other past there = absurd (past_end solo place other past there)
 go_to (Member slot) solo connected is place other past there =
-    let goes = members_of slot (due slot solo) solo connected is refl place other past there in
-    ((hand_out_keeps slot (due slot solo) solo).membership ∙ is ∙ ap (λ (n : ℕ). Member n) (sym goes.0), goes.1, goes.2)
+    let goes = members_of slot (waiting_in slot solo) solo connected is refl place other past there in
+    ((hand_out_keeps slot (waiting_in slot solo) solo).membership ∙ is ∙ ap (λ (n : ℕ). Member n) (sym goes.0), goes.1, goes.2)
 go_to (Leaving slot) solo connected is place other past there = absurd (past_end solo place other past there)
 
 go_in : (phase : Phase) (solo : SoloState) → solo.phase ≡ phase → GoTo solo (deliver_in phase solo).solo

@@ -260,13 +260,12 @@ no_codes solo session old new codes membership shows none same still =
       phase = refl;
     }
 
-pub joins_all : (terms : Terms) (entries : List Subscription) (solo : SoloState) (session : Session Held GroupPlace) (old new : Broker) (codes : List ℕ) (membership : Membership GroupPlace) → ShowsSession solo session old → terms ≡ solo.terms
-    → AnswersEntries Calls slot_at terms old session.membership entries codes membership new → CodesAll (join_all entries solo) solo session codes membership new
-joins_all terms [] solo session old new codes membership shows same does = no_codes solo session old new codes membership shows does.0 does.1 does.2
-joins_all terms (entry ∷ entries) solo session old new codes membership shows same (code, rest, between, mid, first, later, are) =
-    let one = answers_entry solo session old shows (entry_answer entry solo.terms) code between mid
-    (subst (λ (t : Terms). AnswersEntry Calls slot_at old session.membership (entry_answer entry t) code between mid) same first) in
-    let others = joins_all terms entries (entry_reply (entry_answer entry solo.terms) solo).solo (having session between) mid new rest membership one.shows (same ∙ sym one.terms) later in
+pub joins_all : (entries : List Subscription) (solo : SoloState) (session : Session Held GroupPlace) (old new : Broker) (codes : List ℕ) (membership : Membership GroupPlace) → ShowsSession solo session old
+    → AnswersEntries Calls slot_at old session.membership entries codes membership new → CodesAll (join_all entries solo) solo session codes membership new
+joins_all [] solo session old new codes membership shows does = no_codes solo session old new codes membership shows does.0 does.1 does.2
+joins_all (entry ∷ entries) solo session old new codes membership shows (code, rest, between, mid, first, later, are) =
+    let one = answers_entry solo session old shows (entry_answer entry) code between mid first in
+    let others = joins_all entries (entry_reply (entry_answer entry) solo).solo (having session between) mid new rest membership one.shows later in
     record { codes_are = are ∙ (λ i. one.code_is i ∷ others.codes_are i); shows = others.shows; terms = others.terms ∙ one.terms; phase = others.phase ∙ one.phase }
 
 pub leaves_all : (texts : List (List ℕ)) (solo : SoloState) (session : Session Held GroupPlace) (old new : Broker) (codes : List ℕ) (membership : Membership GroupPlace) → ShowsSession solo session old

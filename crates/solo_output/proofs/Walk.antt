@@ -1,5 +1,5 @@
 -- The run of a server on which the stream of one client comes in pieces is the model of what the stream reads as.
-use Rattle.std.proofs.Common.{◌≡◌, ◌⊎◌, ℕ, zero, suc, ◌<◌, ◌≤◌, Bool, true, false, not, List, [], ◌∷◌, ◌++◌, length, replicate, get_or, slice_get, Option, Some, None, Ok, refl, sym, ap, ◌∙◌, subst, ⊎_elim, inl, inr, arith}
+use Rattle.std.proofs.Common.{◌≡◌, ◌⊎◌, ℕ, zero, suc, ◌<◌, Bool, true, false, not, List, [], ◌∷◌, ◌++◌, replicate, get_or, slice_get, Option, Some, None, Ok, refl, sym, ap, ◌∙◌, subst, ⊎_elim, inl, inr, arith}
 use Rattle.std.specs.List.{flat_map}
 use Rattle.std.specs.Option.{option_to_list}
 use Rattle.std.proofs.lemmas.Bool.{not_from_false}
@@ -41,9 +41,9 @@ use Rattle.local_server.specs.Happening.{DoesIf, HappensAll}
 use Rattle.drive.specs.Streams.{at_once}
 use Rattle.solo_output.specs.Groups.{SoloState, Phase, opening}
 use Rattle.solo_output.specs.Groups.Phase.{Closed}
-use Rattle.solo_output.specs.HandOuts.{SoloStep, sends_nothing, deliver_in}
-use Rattle.solo_output.specs.Replies.{reply_in, behind_reply, solo_step, solo_steps, sent_before, farewell, farewell_in}
-use Rattle.solo_output.proofs.Brokers.{ShowsBroker}
+use Rattle.solo_output.specs.HandOuts.{SoloStep, sends_nothing, sent_before, deliver_in}
+use Rattle.solo_output.specs.Replies.{reply_in, behind_reply, solo_step, solo_steps, farewell, farewell_in}
+use Rattle.solo_output.proofs.Brokers.{FitsBroker, ShowsBroker}
 use Rattle.solo_output.proofs.Sessions.{slot_at, ShowsClient}
 use Rattle.solo_output.proofs.Ends.{ShowsEnd}
 use Rattle.solo_output.proofs.Connects.{opens}
@@ -118,13 +118,13 @@ one_more solo packet front after stream first later last spelled parts is rest =
       shows = rest.shows;
     }
 
-module _ (capacity : ℕ) (shares : List Share) (few : length shares ≤ 8) where
+module _ (capacity : ℕ) (shares : List Share) (fits : FitsBroker capacity shares) where
   -- ---- a step
   stepped : (solo : SoloState) (phase : ConnPhase GroupPlace) (old : Broker) (now : ℕ) (packet : Packet) (all : List Packet) (next : Then) (phase' : ConnPhase GroupPlace) (new : Broker) → Shown capacity shares solo phase old
       → Steps Calls slot_at old 0 phase now (inputs.Packet packet) all next phase' new → Stepped (solo_step packet solo) all next phase' new
   stepped solo phase old now packet all next phase' new (inl (opened, is, begins, is_new)) does =
       subst (λ (s : SoloState). Stepped (solo_step packet s) all next phase' new) (sym begins)
-      (first_step capacity opened shares old is_new few now packet all next phase' new (subst (λ (s : ConnPhase GroupPlace). Steps Calls slot_at old 0 s now (inputs.Packet packet) all next phase' new) is does))
+      (first_step capacity opened shares old is_new fits now packet all next phase' new (subst (λ (s : ConnPhase GroupPlace). Steps Calls slot_at old 0 s now (inputs.Packet packet) all next phase' new) is does))
   stepped solo phase old now packet all next phase' new (inr (connected, is, shows)) does =
       later_step solo connected old shows now packet all next phase' new (subst (λ (s : ConnPhase GroupPlace). Steps Calls slot_at old 0 s now (inputs.Packet packet) all next phase' new) is does)
 
@@ -132,7 +132,7 @@ module _ (capacity : ℕ) (shares : List Share) (few : length shares ≤ 8) wher
       → IsLast fault input → Steps Calls slot_at old 0 phase now input all next phase' new → Parted fault solo all phase' new
   parted solo phase old now fault input all next phase' new (inl (opened, is, begins, is_new)) ends does =
       subst (λ (s : SoloState). Parted fault s all phase' new) (sym begins)
-      (first_last capacity opened shares old is_new few now fault input all next phase' new ends (subst (λ (s : ConnPhase GroupPlace). Steps Calls slot_at old 0 s now input all next phase' new) is does))
+      (first_last capacity opened shares old is_new fits now fault input all next phase' new ends (subst (λ (s : ConnPhase GroupPlace). Steps Calls slot_at old 0 s now input all next phase' new) is does))
   parted solo phase old now fault input all next phase' new (inr (connected, is, shows)) ends does =
       later_last solo connected old shows now fault input all next phase' new ends (subst (λ (s : ConnPhase GroupPlace). Steps Calls slot_at old 0 s now input all next phase' new) is does)
 
@@ -267,9 +267,9 @@ open_is solo entries b shows =
     (let group = get_or b.groups at d in
     not_from_false group.state.closed (shows.groups at group (slice_get-get_or b.groups at d less)).goes_on))
 
-module _ (capacity : ℕ) (shares : List Share) (few : length shares ≤ 8) where
+module _ (capacity : ℕ) (shares : List Share) (fits : FitsBroker capacity shares) where
   shown_open : (solo : SoloState) (phase : ConnPhase GroupPlace) (b : Broker) → Shown capacity shares solo phase b → is_open b ≡ true
-  shown_open solo phase b (inl (opened, is, begins, is_new)) = open_is (opening capacity opened.max_inflight shares) [] b (opens capacity opened.max_inflight shares b few is_new)
+  shown_open solo phase b (inl (opened, is, begins, is_new)) = open_is (opening capacity opened.max_inflight shares) [] b (opens capacity opened.max_inflight shares b fits is_new)
   shown_open solo phase b (inr (connected, is, shows)) = open_is solo connected.session.window.owed b shows.session.broker
 
   -- a client that goes on is kept
@@ -292,7 +292,7 @@ module _ (capacity : ℕ) (shares : List Share) (few : length shares ≤ 8) wher
       let one = got.1.0 in
       let moved = got.1.2 in
       let steps = subst (λ (n : ℕ). Steps Calls slot_at old.broker n client.conn.phase (moment_of client mid.clock) inputs.EndOfInput one.packets one.next got.0.conn.phase mid.broker) number moved.stepped in
-      let part = parted capacity shares few solo client.conn.phase old.broker (moment_of client mid.clock) None inputs.EndOfInput one.packets one.next got.0.conn.phase mid.broker shown tt steps in
+      let part = parted capacity shares fits solo client.conn.phase old.broker (moment_of client mid.clock) None inputs.EndOfInput one.packets one.next got.0.conn.phase mid.broker shown tt steps in
       let sent : sent_in said ≡ one.packets = ap sent_in (all ∙ (λ i. got.1.1 i ++ none i)) ∙ append-nil one.packets in
       let ended = last_one solo client.unread.bytes None one.packets got.0.conn.phase mid.broker (refl, open_) part in
       subst (λ (l : List ℕ). Concluded solo l (sent_in said) last.broker) (sym (append-nil client.unread.bytes))
@@ -308,7 +308,7 @@ module _ (capacity : ℕ) (shares : List Share) (few : length shares ≤ 8) wher
       let longer_bytes : (fed client piece).unread.bytes ++ whole pieces ≡ client.unread.bytes ++ whole (piece ∷ pieces) =
       ap (λ (u : Unread). u.bytes ++ whole pieces) unread ∙ append_assoc client.unread.bytes piece (whole pieces) in
       let got =
-      reads capacity shares few now solo (fed client piece) client' old.broker mid.broker mid.clock (whole pieces) (sent_in later) last.broker number (ap (λ (u : Unread). u.fault) unread)
+      reads capacity shares fits now solo (fed client piece) client' old.broker mid.broker mid.clock (whole pieces) (sent_in later) last.broker number (ap (λ (u : Unread). u.fault) unread)
       (subst AreBytes (sym longer_bytes) bytes) shown now_read
       (λ s number' sound' open' bytes' shown'. walk pieces s client' mid last later (there ∙ ap (λ (c : Option (ClientState GroupPlace)). Some c) (kept_shown s client' mid.broker shown')) number' sound' open' bytes' shown' others)
       (λ ended. idle pieces mid last later (there ∙ ap (λ (c : Option (ClientState GroupPlace)). Some c) (kept_ended client' ended)) others) in
@@ -331,7 +331,7 @@ module _ (capacity : ℕ) (shares : List Share) (few : length shares ≤ 8) wher
   pub run : (pieces : List (List ℕ)) (first last : ServerState) (said : List StepOutput) → IsNewBroker capacity shares first.broker → first.clients ≡ replicate 64 None → AreBytes (whole pieces)
       → HappensAll first (at_once (Open 0) ∷ all_pieces pieces) said last → Concluded (opening capacity first.max_inflight shares) (whole pieces) (sent_in said) last.broker
   run pieces first last said is_new none bytes (mid, now, later, happens, others, all) =
-      let is_open_now = open_is (opening capacity first.max_inflight shares) [] first.broker (opens capacity first.max_inflight shares first.broker few is_new) in
+      let is_open_now = open_is (opening capacity first.max_inflight shares) [] first.broker (opens capacity first.max_inflight shares first.broker fits is_new) in
       let does = subst (λ (b : Bool). DoesIf b (Open 0) first.max_inflight first.broker first.clients mid.clock now (Ok tt) mid.clients mid.broker) is_open_now happens.does in
       let cell : slice_get first.clients 0 ≡ Some None = ap (λ (l : Clients). slice_get l 0) none ∙ first_none 64 (omega arith) in
       let got = in_cell first.clients mid.clients _ None cell does.0 in

@@ -1,5 +1,5 @@
 -- What has become of the messages of one client's run, as lists: those that each group accepted, and the hand-outs (sections 4.3.2, 4.4 and 4.8.2).
-use Rattle.std.specs.Prelude.{ℕ, zero, suc, ◌==◌, ◌&&◌, nat_lt, Bool, true, false, not, if◌then◌else◌, List, [], ◌∷◌, ◌++◌, map, filter, length, drop, slice_index_or, Option, Some, None, is_none}
+use Rattle.std.specs.Prelude.{ℕ, zero, suc, ◌==◌, ◌&&◌, nat_lt, Bool, true, false, not, if◌then◌else◌, List, [], ◌∷◌, ◌++◌, map, filter, length, drop, slice_index_or, Option, None}
 use Rattle.mqtt_topic.specs.Names.{Share}
 use Rattle.group_jobs.specs.declared.message.Message.{Message}
 use Rattle.conn_rules.specs.declared.terms.Terms.{Terms}
@@ -11,13 +11,19 @@ pub record Bound : Type 0 where
   pub share : Share
   pub accepted : List Message
 
--- the next message of the group of this slot was sent to the client under this Subscription Identifier, or none (3.3.2.3.8), and this Packet
--- Identifier; the Reason Code of its PUBACK, if that came (3.4.2.1)
+-- what became of a hand-out: no PUBACK came, or one came with this Reason Code (3.4.2.1); or it was not sent, but discarded (3.1.2.11.4)
+pub data Outcome : Type 0 where
+  Unacknowledged : Outcome
+  Acknowledged : ℕ → Outcome
+  Discarded : Outcome
+
+-- the next message of the group of this slot was handed to the client, under this Subscription Identifier, or none (3.3.2.3.8), and this Packet
+-- Identifier; one that is discarded leaves its Packet Identifier to the next
 pub record HandOut : Type 0 where
   pub slot : ℕ
   pub subscription : Option ℕ
   pub identifier : ℕ
-  pub code : Option ℕ
+  pub outcome : Outcome
 
 -- how far the connection has come
 pub data Phase : Type 0 where
@@ -25,9 +31,10 @@ pub data Phase : Type 0 where
   Connected : Phase
   Closed : Phase
 
--- What the client asked for when it connected; how many messages may wait in each group; how many may be unacknowledged, whatever its Receive Maximum; the groups, that of slot n at place n; the slot
--- of the group whose member the client is, if it is one; the Subscription Identifier of its last SUBSCRIBE that was granted, if that had one; and the hand-outs, in order: the first of a slot is that of the first message of
--- its group, and so on.
+-- What the client asked for when it connected; how many messages may wait in each group; how many may be unacknowledged, whatever its Receive
+-- Maximum; the groups, that of slot n at place n; the slot of the group whose member the client is, if it is one; the Subscription Identifier of
+-- its last SUBSCRIBE that was granted, if that had one; and the hand-outs, in order: the first of a slot is that of the first message of its group,
+-- and so on.
 pub record SoloState : Type 0 where
   pub phase : Phase
   pub terms : Terms
@@ -41,7 +48,7 @@ pub record SoloState : Type 0 where
 -- 3.1.2: what holds before a CONNECT: no keep alive, the greatest Receive Maximum, packets of any size, and a session that ends with
 -- its connection
 abbrev pub default_terms : Terms
-default_terms = record { receive_maximum = 65535; session_expiry_interval = 0; keep_alive = 0; takes_all_packets = true }
+default_terms = record { receive_maximum = 65535; session_expiry_interval = 0; keep_alive = 0; maximum_packet_size = None }
 
 -- a share, whose group accepted nothing yet
 abbrev pub bound : Share → Bound
@@ -73,11 +80,27 @@ handed_in slot hand_outs = filter (λ hand_out. hand_out.slot == slot) hand_outs
 abbrev pub waiting_in : ℕ → SoloState → List Message
 waiting_in slot solo = drop (length (handed_in slot solo.handed_out)) (accepted_in slot solo.groups)
 
--- no PUBACK came
-abbrev pub is_open : HandOut → Bool
-is_open hand_out = is_none hand_out.code
+-- a hand-out was discarded
+abbrev pub discards : Outcome → Bool
+discards Unacknowledged = false
+discards (Acknowledged code) = false
+discards Discarded = true
 
--- the identifiers of the hand-outs that are not acknowledged, in order
+-- it was sent
+abbrev pub was_sent : HandOut → Bool
+was_sent hand_out = not (discards hand_out.outcome)
+
+-- an outcome may still change: the hand-out was sent, and no PUBACK came
+abbrev pub waits_for_puback : Outcome → Bool
+waits_for_puback Unacknowledged = true
+waits_for_puback (Acknowledged code) = false
+waits_for_puback Discarded = false
+
+-- so of a hand-out
+abbrev pub is_open : HandOut → Bool
+is_open hand_out = waits_for_puback hand_out.outcome
+
+-- the identifiers of the hand-outs that wait for a PUBACK, in order
 abbrev pub open_identifiers : List HandOut → List ℕ
 open_identifiers hand_outs = map (λ hand_out. hand_out.identifier) (filter is_open hand_outs)
 
@@ -87,16 +110,18 @@ unacknowledged solo = open_identifiers solo.handed_out
 -- a PUBACK settles the unacknowledged hand-out of its identifier, if there is one
 abbrev pub settled : ℕ → ℕ → HandOut → HandOut
 settled identifier code hand_out =
-    if is_open hand_out && (hand_out.identifier == identifier) then record hand_out { code = Some code } else hand_out
+    if is_open hand_out && (hand_out.identifier == identifier) then record hand_out { outcome = Acknowledged code } else hand_out
 
 -- a Reason Code below 80 hex acknowledges, another refuses (2.4)
-abbrev pub acknowledges : Option ℕ → Bool
-acknowledges None = false
-acknowledges (Some code) = nat_lt code 128
+abbrev pub acknowledges : Outcome → Bool
+acknowledges Unacknowledged = false
+acknowledges (Acknowledged code) = nat_lt code 128
+acknowledges Discarded = false
 
-abbrev pub refuses : Option ℕ → Bool
-refuses None = false
-refuses (Some code) = not (nat_lt code 128)
+abbrev pub refuses : Outcome → Bool
+refuses Unacknowledged = false
+refuses (Acknowledged code) = not (nat_lt code 128)
+refuses Discarded = false
 
 -- what a model becomes
 
@@ -118,6 +143,5 @@ with_share share solo = record solo { groups = solo.groups ++ bound share ∷ []
 abbrev pub with_puback : ℕ → ℕ → SoloState → SoloState
 with_puback identifier code solo = record solo { handed_out = map (settled identifier code) solo.handed_out }
 
-abbrev pub with_hand_out : ℕ → ℕ → SoloState → SoloState
-with_hand_out slot identifier solo =
-    record solo { handed_out = solo.handed_out ++ (record { slot = slot; subscription = solo.subscription; identifier = identifier; code = None }) ∷ [] }
+abbrev pub with_hand_out : HandOut → SoloState → SoloState
+with_hand_out hand_out solo = record solo { handed_out = solo.handed_out ++ hand_out ∷ [] }

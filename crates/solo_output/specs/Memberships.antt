@@ -48,7 +48,7 @@ pub record AsksFor (subscribe : Subscribe) (share : Share) (solo : SoloState) : 
   pub place : ℕ
   pub entry : Subscription
   pub asked : slice_get subscribe.subscriptions place ≡ Some entry
-  pub served : entry_answer entry solo.terms ≡ Join share
+  pub served : entry_answer entry ≡ Join share
 
 -- 3.10.3: a client that is connected sends this UNSUBSCRIBE, which does not close the connection; it has the text of the share of this slot
 pub record AsksToLeave (unsubscribe : Unsubscribe) (slot : ℕ) (solo : SoloState) : Type 0 where

@@ -13,7 +13,7 @@ use Rattle.conn_rules.specs.Faults.{fault_code, fault_refusal}
 use Rattle.conn_rules.specs.Packets.{accepting, refusing, disconnect}
 use Rattle.solo_output.specs.Groups.{SoloState, Phase, with_puback}
 use Rattle.solo_output.specs.Groups.Phase.{Unconnected, Connected, Closed}
-use Rattle.solo_output.specs.HandOuts.{SoloStep, sends_nothing, deliver}
+use Rattle.solo_output.specs.HandOuts.{SoloStep, sends_nothing, sent_before, deliver}
 use Rattle.solo_output.specs.Publishing.{Reply, answering, closing, publish_reply}
 use Rattle.solo_output.specs.Subscribing.{subscribe_reply, unsubscribe_reply}
 
@@ -79,9 +79,6 @@ abbrev pub solo_step : Packet → SoloState → SoloStep
 solo_step packet solo = behind_reply (reply packet solo)
 
 -- what packets bring about, one after another
-abbrev pub sent_before : List Packet → SoloStep → SoloStep
-sent_before packets later = record later { sent = packets ++ later.sent }
-
 abbrev pub solo_steps : List Packet → SoloState → SoloStep
 solo_steps [] solo = sends_nothing solo
 solo_steps (packet ∷ packets) solo = sent_before (solo_step packet solo).sent (solo_steps packets (solo_step packet solo).solo)

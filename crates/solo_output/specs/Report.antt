@@ -2,7 +2,7 @@
 use Rattle.std.specs.Prelude.{ℕ, ◌+◌, ◌-◌, ◌==◌, if◌then◌else◌, List, [], ◌∷◌, ◌++◌, length, count_by, codes}
 use Rattle.mqtt_topic.specs.Names.{Share}
 use Rattle.group_jobs.specs.Reports.{labelled}
-use Rattle.solo_output.specs.Groups.{Bound, HandOut, SoloState, handed_in, open_identifiers, acknowledges, refuses}
+use Rattle.solo_output.specs.Groups.{Bound, HandOut, SoloState, handed_in, open_identifiers, acknowledges, refuses, discards}
 
 -- how many messages of a group have each fate
 pub record Fates : Type 0 where
@@ -13,16 +13,16 @@ pub record Fates : Type 0 where
   pub returned : ℕ
   pub discarded : ℕ
 
--- Each accepted message is acknowledged, refused, held, queued or returned, and none is discarded: what is unacknowledged at the end of the connection is
--- returned where the session ends with it, and else held (3.1.2.11.2).
+-- Each accepted message is acknowledged, refused, held, queued, returned or discarded: what is unacknowledged at the end of the connection is
+-- returned where the session ends with it, and else held (3.1.2.11.2); what the client was not to be sent is discarded (3.1.2.11.4).
 abbrev pub counts_of : ℕ → ℕ → List HandOut → Fates
 counts_of expiry accepted hand_outs = record {
-  acknowledged = count_by (λ hand_out. acknowledges hand_out.code) hand_outs;
-  refused = count_by (λ hand_out. refuses hand_out.code) hand_outs;
+  acknowledged = count_by (λ hand_out. acknowledges hand_out.outcome) hand_outs;
+  refused = count_by (λ hand_out. refuses hand_out.outcome) hand_outs;
   held = if expiry == 0 then 0 else length (open_identifiers hand_outs);
   queued = accepted - length hand_outs;
   returned = if expiry == 0 then length (open_identifiers hand_outs) else 0;
-  discarded = 0;
+  discarded = count_by (λ hand_out. discards hand_out.outcome) hand_outs;
 }
 
 -- the share's text, the counts, and 0A

@@ -1,6 +1,6 @@
 -- A run: what a client that sends these packets, one after another, brings about on a new server; and what of it is accepted, sent and settled
 -- (sections 3.3.2, 3.4.2.1, 4.3.2, 4.6 and 4.7).
-use Rattle.std.specs.Prelude.{◌≡◌, ℕ, ◌==◌, Bool, true, false, not, if◌then◌else◌, List, [], ◌∷◌, ◌++◌, map, filter, slice_get, Some, None}
+use Rattle.std.specs.Prelude.{◌≡◌, ◌≢◌, ℕ, ◌==◌, Bool, true, false, not, if◌then◌else◌, List, [], ◌∷◌, ◌++◌, map, filter, slice_get, Some}
 use Rattle.std.specs.List.{list_any, zip}
 use Rattle.mqtt_packet.specs.declared.packet.Packet.{Packet}
 use Rattle.mqtt_packet.specs.declared.packet.Packet.TheVariants as kinds
@@ -14,7 +14,8 @@ use Rattle.conn_rules.specs.declared.publishing.PublishAnswer.TheVariants as ans
 use Rattle.conn_rules.specs.Packets.{job}
 use Rattle.conn_rules.specs.Publishing.{publish_answer, message_of}
 use Rattle.conn_rules.specs.declared.setup.Setup.{Setup}
-use Rattle.solo_output.specs.Groups.{SoloState, Phase, HandOut, opening}
+use Rattle.solo_output.specs.Groups.{SoloState, Phase, HandOut, opening, was_sent}
+use Rattle.solo_output.specs.Groups.Outcome.{Unacknowledged, Discarded}
 use Rattle.solo_output.specs.Groups.Phase.{Unconnected, Connected, Closed}
 use Rattle.solo_output.specs.HandOuts.{SoloStep}
 use Rattle.solo_output.specs.Publishing.{is_full, matching}
@@ -62,13 +63,18 @@ is_publish _ = false
 abbrev pub published : List Packet → List Packet
 published packets = filter is_publish packets
 
--- the PUBLISH packets of the hand-outs of this slot, where the n-th packet is that of the n-th hand-out
-abbrev pub sent_in : ℕ → List Packet → List HandOut → List Packet
-sent_in slot packets hand_outs = map (λ pair. pair.0) (filter (λ pair. pair.1.slot == slot) (zip packets hand_outs))
+-- those of the hand-outs that were sent
+abbrev pub sent_of : List HandOut → List HandOut
+sent_of hand_outs = filter was_sent hand_outs
 
--- messages as they go out (DUP 0), the first under the identifiers of the first hand-out, and so on, as far as both lists go
+-- the PUBLISH packets of the hand-outs of this slot, where the n-th packet is that of the n-th hand-out that was sent
+abbrev pub sent_in : ℕ → List Packet → List HandOut → List Packet
+sent_in slot packets hand_outs = map (λ pair. pair.0) (filter (λ pair. pair.1.slot == slot) (zip packets (sent_of hand_outs)))
+
+-- messages as they go out (DUP 0), the first under the identifiers of the first hand-out, and so on, as far as both lists go; what is discarded does
+-- not go out
 abbrev pub jobs_of : List Message → List HandOut → List Packet
-jobs_of messages hand_outs = map (λ pair. job false pair.0 pair.1.subscription pair.1.identifier) (zip messages hand_outs)
+jobs_of messages hand_outs = map (λ pair. job false pair.0 pair.1.subscription pair.1.identifier) (filter (λ pair. was_sent pair.1) (zip messages hand_outs))
 
 -- ---- whose a hand-out is, and what settles it
 
@@ -78,12 +84,13 @@ IsInGroup NotMember slot = ⊥
 IsInGroup (Member own) slot = own ≡ slot
 IsInGroup (Leaving own) slot = own ≡ slot
 
--- a hand-out as it was, or settled since
+-- a hand-out as it was, or settled since by a PUBACK
 pub record IsStill (before after : HandOut) : Type 0 where
   pub slot : after.slot ≡ before.slot
   pub subscription : after.subscription ≡ before.subscription
   pub identifier : after.identifier ≡ before.identifier
-  pub for_good : (code : ℕ) → before.code ≡ Some code → after.code ≡ Some code
+  pub for_good : before.outcome ≢ Unacknowledged → after.outcome ≡ before.outcome
+  pub at_once : after.outcome ≡ Discarded → before.outcome ≡ Discarded
 
 -- 4.3.2: a PUBACK of this Reason Code came under the identifier of the hand-out at this place while that was unacknowledged
 pub record IsSettledBy (setup : Setup) (packets : List Packet) (place code : ℕ) : Type 0 where
@@ -94,6 +101,6 @@ pub record IsSettledBy (setup : Setup) (packets : List Packet) (place code : ℕ
   pub connected : (run_of setup earlier).solo.phase ≡ Connected
   pub hand_out : HandOut
   pub there : slice_get (run_of setup earlier).solo.handed_out place ≡ Some hand_out
-  pub unacknowledged : hand_out.code ≡ None
+  pub unacknowledged : hand_out.outcome ≡ Unacknowledged
   pub its : puback.packet_identifier ≡ hand_out.identifier
   pub as_told : puback.reason_code ≡ code

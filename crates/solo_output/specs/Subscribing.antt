@@ -79,8 +79,8 @@ coded_first code later = record later { codes = code ∷ later.codes }
 abbrev pub join_all : List Subscription → SoloState → AllCoded
 join_all [] solo = record { codes = []; solo = solo }
 join_all (entry ∷ entries) solo =
-    coded_first (entry_reply (entry_answer entry solo.terms) solo).code
-    (join_all entries (entry_reply (entry_answer entry solo.terms) solo).solo)
+    coded_first (entry_reply (entry_answer entry) solo).code
+    (join_all entries (entry_reply (entry_answer entry) solo).solo)
 
 abbrev pub leave_all : List (List ℕ) → SoloState → AllCoded
 leave_all [] solo = record { codes = []; solo = solo }

@@ -1,6 +1,6 @@
 //! Laws of the model: it is what a server does, and what it comes to is lawful. Each is the contract of a function that does nothing,
 //! stated over the definitions that the contracts of [`solo`](crate::solo) and of [`drive_client`](drive::drive_client) cite.
-ghost use Rattle.std.specs.Prelude.{◌≡◌, ◌≢◌, ◌⊎◌, ◌↔◌, ◌+◌, ◌<◌, ◌≤◌, ℕ, min, List, [], ◌∷◌, ◌++◌, length, take, slice_get, Option, Some, None, Ok, Err};
+ghost use Rattle.std.specs.Prelude.{◌≡◌, ◌≢◌, ◌⊎◌, ◌↔◌, ◌+◌, ◌<◌, ◌≤◌, ℕ, min, true, List, [], ◌∷◌, ◌++◌, length, take, slice_get, Option, Some, None, Ok, Err};
 ghost use Rattle.std.specs.List.{AllByRecursion};
 ghost use Rattle.member_window.specs.Identifiers.{IsLeastFree, AreDistinct};
 ghost use Rattle.mqtt_fields.specs.declared.fault.StreamFault.{StreamFault};
@@ -12,18 +12,22 @@ ghost use Rattle.mqtt_packet.specs.declared.packet.Publish.{Publish};
 ghost use Rattle.mqtt_packet.specs.declared.packet.Subscribe.{Subscribe};
 ghost use Rattle.mqtt_packet.specs.declared.packet.Unsubscribe.{Unsubscribe};
 ghost use Rattle.mqtt_wire.specs.Stream.{Reads};
+ghost use Rattle.group_jobs.specs.declared.message.Message.{Message};
 ghost use Rattle.mqtt_topic.specs.Names.{Share};
 ghost use Rattle.mqtt_topic.specs.Routes.{most_routes, slot_of, AreDistinct as HaveDistinctTexts};
 ghost use Rattle.local_group.specs.Groups.{life};
 ghost use Rattle.session_desk.specs.declared.session.Membership.TheVariants.{NotMember, Member, Leaving};
 ghost use Rattle.conn_rules.specs.declared.publishing.PublishAnswer.TheVariants.{Offer};
 ghost use Rattle.conn_rules.specs.Connecting.{or_else};
+ghost use Rattle.conn_rules.specs.HandOuts.{is_big};
 ghost use Rattle.conn_rules.specs.Packets.{puback};
 ghost use Rattle.conn_rules.specs.Publishing.{publish_answer, puback_code};
+ghost use Rattle.conn_rules.specs.Setups.{most_capacity};
 ghost use Rattle.conn_rules.specs.declared.setup.Setup.{Setup};
 ghost use Rattle.drive.specs.Streams.{client_script_of};
 ghost use Rattle.drive.specs.Transcripts.{IsClientOutput};
 ghost use Rattle.solo_output.specs.Groups.{SoloState, HandOut, opening, shares_of, accepted_in, handed_in, open_identifiers, waiting_in, unacknowledged};
+ghost use Rattle.solo_output.specs.Groups.Outcome.{Unacknowledged, Acknowledged, Discarded};
 ghost use Rattle.solo_output.specs.Groups.Phase.{Connected, Closed};
 ghost use Rattle.solo_output.specs.HandOuts.{quota, least_free, sends_nothing};
 ghost use Rattle.solo_output.specs.Publishing.{matching};
@@ -32,17 +36,18 @@ ghost use Rattle.solo_output.specs.Report.{counts_of};
 ghost use Rattle.solo_output.specs.Streams.{stream_of};
 ghost use Rattle.solo_output.specs.Output.{solo_output, IsOutputFor};
 ghost use Rattle.solo_output.specs.Memberships.{AsksFor, AsksToLeave, Joins, Leaves, subscription_in};
-ghost use Rattle.solo_output.specs.Runs.{run_of, takers, taken, published, sent_in, jobs_of, IsInGroup, IsStill, IsSettledBy};
+ghost use Rattle.solo_output.specs.Runs.{run_of, takers, taken, published, sent_of, sent_in, jobs_of, IsInGroup, IsStill, IsSettledBy};
 
-/// **The output that [`solo`](crate::solo) writes is that of a run of a server**, with at most eight shares bound: what a server says and reports when the client's
-/// stream comes to it (`IsClientOutput`), which is what [`drive_client`](drive::drive_client) writes, is the output for the input: the lines spell a stream, that
-/// is read as packets and perhaps a fault, and the output is `solo_output` of these (`closed_form`); and so for whatever the stream is read as (`each_reading`),
-/// of which there is one. Where a line is not hex, the events of the input and its stream name the same first such line (`bad_line`).
+/// **The output that [`solo`](crate::solo) writes is that of a run of a server**, with at most eight shares bound and a capacity of at most 65,536, as each
+/// `Setup` has: what a server says and reports when the client's stream comes to it (`IsClientOutput`), which is what [`drive_client`](drive::drive_client)
+/// writes, is the output for the input: the lines spell a stream, that is read as packets and perhaps a fault, and the output is `solo_output` of these
+/// (`closed_form`); and so for whatever the stream is read as (`each_reading`), of which there is one. Where a line is not hex, the events of the input and its
+/// stream name the same first such line (`bad_line`).
 pub fn solo_output_law()
-    ensures closed_form { (setup : Setup) (input output : List ℕ) → length setup.groups ≤ 8 → IsClientOutput setup input output →
-        IsOutputFor setup input output }
+    ensures closed_form { (setup : Setup) (input output : List ℕ) → length setup.groups ≤ 8 → setup.capacity ≤ most_capacity →
+        IsClientOutput setup input output → IsOutputFor setup input output }
     ensures each_reading { (setup : Setup) (input output stream : List ℕ) (packets : List Packet) (rest : List ℕ) (fault : Option StreamFault) →
-        length setup.groups ≤ 8 → IsClientOutput setup input output → stream_of input ≡ Ok stream → Reads stream packets rest fault →
+        length setup.groups ≤ 8 → setup.capacity ≤ most_capacity → IsClientOutput setup input output → stream_of input ≡ Ok stream → Reads stream packets rest fault →
         output ≡ solo_output setup packets fault }
     ensures bad_line { (input : List ℕ) (line : ℕ) → (client_script_of input ≡ Err line) ↔ (stream_of input ≡ Err line) }
 {}
@@ -71,14 +76,17 @@ pub fn identifier_law()
 ///   took the message, or some did not (3.4.2.1).
 /// - `waiting`: no group accepted more than 2^40 messages, the most that one connection may publish to a group, and in none more wait than the
 ///   capacity (profile).
-/// - `in_order`: the PUBLISH packets that were sent are one for each hand-out, and those of a group are its first accepted messages, in order, each
-///   under the Packet Identifier and the Subscription Identifier of its hand-out, with DUP 0. So none goes out twice, and none before an older one (4.6).
+/// - `in_order`: the PUBLISH packets that were sent are one for each hand-out that was not discarded, and those of a group are its first accepted
+///   messages, without the discarded ones, in order, each under the Packet Identifier and the Subscription Identifier of its hand-out, with DUP 0. So
+///   none goes out twice, and none before an older one (4.6).
+/// - `discarded`: a hand-out is discarded exactly where the PUBLISH of its message, under its Subscription Identifier, is longer than the Maximum
+///   Packet Size of the CONNECT; where that has none, none is (3.1.2.11.4).
 /// - `members`: what a packet brings out goes to a member of its group, under the Subscription Identifier that the client has then, or none
-///   (3.3.2.3.8), and the least Packet Identifier that is free by then. `one_group`: what is
+///   (3.3.2.3.8), and the least Packet Identifier that is free by then; what is discarded uses none. `one_group`: what is
 ///   unacknowledged is of the one group whose member the client is, or which it is leaving (profile); `bound`: that group is there.
 /// - `settles`: a PUBACK gives its Reason Code to the hand-out that is unacknowledged under its identifier; `settled`: and a hand-out has a code only so
 ///   (4.3.2).
-/// - `for_good`: a hand-out keeps its group, its identifiers and, once it has one, its Reason Code.
+/// - `for_good`: a hand-out keeps its group, its identifiers and, once it has one, its Reason Code; what is discarded stays so, and is so from the first.
 /// - `one_fate`: the counts of a group's report add up to that of its accepted messages (profile).
 /// - `eager`: while a client is connected and a member, a message of its group waits only where the quota has no room (profile).
 /// - `closed`: once its connection is closed nothing is sent, also to a fault, and nothing changes.
@@ -104,23 +112,27 @@ pub fn every_run_is_lawful()
         (length (accepted_in slot solo.groups) ≤ life) × (length (waiting_in slot solo) ≤ setup.capacity) }
     ensures in_order { (setup : Setup) (packets : List Packet) (slot : ℕ) → let run = run_of setup packets in
         let accepted = accepted_in slot run.solo.groups in let hand_outs = handed_in slot run.solo.handed_out in
-        (length (published run.sent) ≡ length run.solo.handed_out) × (length hand_outs ≤ length accepted)
+        (length (published run.sent) ≡ length (sent_of run.solo.handed_out)) × (length hand_outs ≤ length accepted)
         × (sent_in slot (published run.sent) run.solo.handed_out ≡ jobs_of accepted hand_outs) }
+    ensures discarded { (setup : Setup) (connect : Connect) (packets : List Packet) (slot place : ℕ) (message : Message) (one : HandOut) →
+        let solo = (run_of setup (kinds.Connect connect ∷ packets)).solo in
+        slice_get (accepted_in slot solo.groups) place ≡ Some message → slice_get (handed_in slot solo.handed_out) place ≡ Some one →
+        (one.outcome ≡ Discarded) ↔ (is_big connect.properties.maximum_packet_size one.subscription message ≡ true) }
     ensures members { (setup : Setup) (packets : List Packet) (packet : Packet) (place : ℕ) (one : HandOut) →
         let solo = (run_of setup packets).solo in let next = (solo_step packet solo).solo in
         length solo.handed_out ≤ place → slice_get next.handed_out place ≡ Some one →
         (next.membership ≡ Member one.slot) × (one.subscription ≡ next.subscription) × IsLeastFree (open_identifiers (take place next.handed_out)) one.identifier }
     ensures one_group { (setup : Setup) (packets : List Packet) (place : ℕ) (one : HandOut) → let solo = (run_of setup packets).solo in
-        slice_get solo.handed_out place ≡ Some one → one.code ≡ None → IsInGroup solo.membership one.slot }
+        slice_get solo.handed_out place ≡ Some one → one.outcome ≡ Unacknowledged → IsInGroup solo.membership one.slot }
     ensures bound { (setup : Setup) (packets : List Packet) (slot : ℕ) → let solo = (run_of setup packets).solo in
         IsInGroup solo.membership slot → slot < length solo.groups }
     ensures settles { (setup : Setup) (packets : List Packet) (puback : Puback) (place : ℕ) (one : HandOut) →
         let solo = (run_of setup packets).solo in solo.phase ≡ Connected →
-        slice_get solo.handed_out place ≡ Some one → one.code ≡ None → puback.packet_identifier ≡ one.identifier →
+        slice_get solo.handed_out place ≡ Some one → one.outcome ≡ Unacknowledged → puback.packet_identifier ≡ one.identifier →
         (settled : HandOut) × (slice_get (solo_step (kinds.Puback puback) solo).solo.handed_out place ≡ Some settled)
-        × IsStill one settled × (settled.code ≡ Some puback.reason_code) }
+        × IsStill one settled × (settled.outcome ≡ Acknowledged puback.reason_code) }
     ensures settled { (setup : Setup) (packets : List Packet) (place code : ℕ) (one : HandOut) →
-        slice_get (run_of setup packets).solo.handed_out place ≡ Some one → one.code ≡ Some code → IsSettledBy setup packets place code }
+        slice_get (run_of setup packets).solo.handed_out place ≡ Some one → one.outcome ≡ Acknowledged code → IsSettledBy setup packets place code }
     ensures for_good { (setup : Setup) (packets more : List Packet) (place : ℕ) (one : HandOut) → let solo = (run_of setup packets).solo in
         slice_get solo.handed_out place ≡ Some one →
         (other : HandOut) × (slice_get (solo_steps more solo).solo.handed_out place ≡ Some other) × IsStill one other }

@@ -39,5 +39,6 @@ pub fn solo<R: Read, W: Write>(
     ensures kept { IfErr result (λ error. error ≢ RunError.WriteFailed → Keeps (W.contents writer.old) (W.contents writer.new)) }
 {
     prove!(setup.groups.shares().len() <= 8);
+    prove!(setup.capacity.get() <= 65_536);
     drive_client(alloc, setup, reader, writer)
 }

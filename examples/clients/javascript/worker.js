@@ -24,7 +24,6 @@ const client = mqtt.connect(`mqtt://${host}:${port}`, {
   customHandleAcks: (topic, job, packet, done) => work(job).then(() => done(0), () => done(0x80))
 })
 client.on('connect', () => {
-  delete client.options.properties.maximumPacketSize // else MQTT.js 4 announces the broker's as its own when it connects again
   client.subscribe('$share/workers/jobs', { qos: 1 }, (error, granted) => {
     if (granted && granted[0].qos < 0x80) return
     console.error('not a member', error || granted)

@@ -1,6 +1,6 @@
 //! Streams that end after each byte, and streams in which each byte is replaced: what is written is what `solo` writes.
 use crate::served::acting::{STREAM, Scenario, assert_served, assert_written, serve_alone};
-use conn_rules::{MaxInflight, Setup};
+use conn_rules::{MaxInflight, QueueCapacity, Setup};
 use conn_service::Served;
 use mqtt_topic::Routes;
 use solo_output::solo;
@@ -13,8 +13,11 @@ use text_io::RunError;
 /// What `solo` writes of a stream: lines of hex digits, and reports.
 fn solo_lines(alloc: Global, stream: &[u8]) -> Result<Vec<u8>, RunError> {
     let digits = hex::encode(alloc, stream)?;
+    let Some(capacity) = QueueCapacity::new(1_024) else {
+        unreachable!()
+    };
     let setup = Setup {
-        capacity: 1_024,
+        capacity,
         max_inflight: MaxInflight::most(),
         groups: Routes::new(alloc),
     };

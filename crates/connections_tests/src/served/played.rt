@@ -4,7 +4,7 @@ ghost use Rattle.transport.specs.Counting.{no_counts};
 
 use bytes::Bytes;
 use conn_engine::Opening;
-use conn_rules::{MaxInflight, Setup};
+use conn_rules::{MaxInflight, QueueCapacity, Setup};
 use conn_service::{Direction, Round, Service};
 use conn_supply::{HoldingPlace, Supply};
 use drive::drive_lines;
@@ -229,7 +229,7 @@ fn routes_of(alloc: Global, shares: &[&str]) -> Option<Routes> {
 /// What `drive` writes of a scenario after which the broker closes.
 fn driven(alloc: Global, scenario: &Scenario<'_>) -> Option<Vec<u8>> {
     let setup = Setup {
-        capacity: scenario.capacity,
+        capacity: QueueCapacity::new(scenario.capacity)?,
         max_inflight: MaxInflight::most(),
         groups: routes_of(alloc, scenario.shares)?,
     };
@@ -246,7 +246,7 @@ fn compare(rt: &impl Abort, alloc: Global, scenario: &Scenario<'_>) {
     let lines = std::str::from_utf8(&written).ok().expect(rt, "text");
     let events = scenario.events(alloc).expect(rt, "events");
     let routes = routes_of(alloc, scenario.shares).expect(rt, "routes");
-    let supply = LocalSupply::open(alloc, scenario.capacity, routes);
+    let supply = LocalSupply::open(alloc, scenario.capacity as usize, routes);
     let mut supply = supply.ok().expect(rt, "a broker");
     let mut lanes = lanes_of(rt, alloc, &events);
     act(rt, alloc, &mut supply, &mut lanes, &events);

@@ -1,17 +1,19 @@
 //! What packets, faults and time bring about, in rows of bytes worked out by hand from the standard.
 use crate::asserting::{assert_same, assert_same_at};
-use crate::rules::reading::{answers, answers_in, packet, published, refusal};
+use crate::rules::reading::{answer_to_bytes, asked_for, first_answer, packet, published, refusal};
 use conn_rules::{
-    EntryAnswer, FirstAnswer, MaxInflight, PublishAnswer, Terms, answer_to_entry, fate_of,
-    fault_code, fault_refusal, is_late, is_overdue, puback_code,
+    EntryAnswer, FirstAnswer, MaxInflight, PublishAnswer, QueueCapacity, Terms, answer_to_entry,
+    fate_of, fault_code, fault_refusal, is_late, is_overdue, puback_code,
 };
 use group_jobs::Fate;
 use mqtt_fields::{Fault, StreamFault};
-use mqtt_packet::{ConnectRefusal, Packet, PacketIdentifier, ReasonCode, Subscribe};
+use mqtt_packet::{
+    ConnectRefusal, MaximumPacketSize, Packet, PacketIdentifier, ReasonCode, Subscribe,
+};
 use std::alloc::Global;
 use std::test::Fail;
 
-// A CONNECT; those of clients that take at most 4, 63 and 65,535 bytes; one with an Authentication Method; one of another
+// A CONNECT; those of clients that take at most 4, 63, 64 and 65,535 bytes; one with an Authentication Method; one of another
 // version; one with a will.
 const PLAIN: &str = "100F00044D5154540502003C0000027731";
 
@@ -19,23 +21,15 @@ const TAKES_4: &str = "101400044D5154540502003C05270000000400027731";
 
 const TAKES_63: &str = "101400044D5154540502003C05270000003F00027731";
 
+const TAKES_64: &str = "101400044D5154540502003C05270000004000027731";
+
 const TAKES_65_535: &str = "101400044D5154540502003C05270000FFFF00027731";
-
-/// Takes packets of 65,541 bytes, and of the 65,542 that the longest PUBLISH has.
-const TAKES_65_541: &str = "101400044D5154540502003C05270001000500027731";
-
-const TAKES_65_542: &str = "101400044D5154540502003C05270001000600027731";
 
 const AUTHENTICATES: &str = "101300044D5154540502003C041500016100027731";
 
 const OTHER_VERSION: &str = "1003000004";
 
 const WITH_WILL: &str = "100800044D5154540504";
-
-// The answer to a first packet.
-fn first(alloc: Global, digits: &str) -> Result<Option<FirstAnswer>, Fault> {
-    Ok(answers_in(alloc, digits)?.map(|answers| answers.first))
-}
 
 #[test]
 fn first_packets(rt: HostRuntime) -> Result<(), Fail> {
@@ -46,6 +40,7 @@ fn first_packets(rt: HostRuntime) -> Result<(), Fail> {
         (PLAIN, FirstAnswer::Attach),
         (TAKES_4, FirstAnswer::Close),
         (TAKES_63, unsuited),
+        (TAKES_64, FirstAnswer::Attach),
         (TAKES_65_535, FirstAnswer::Attach),
         (AUTHENTICATES, unknown),
         (OTHER_VERSION, older),
@@ -53,7 +48,12 @@ fn first_packets(rt: HostRuntime) -> Result<(), Fail> {
         ("C000", FirstAnswer::Close),
     ];
     for (digits, wanted) in &rows {
-        assert_same_at(&rt, &first(rt.alloc(), digits)?, &Some(*wanted), digits);
+        assert_same_at(
+            &rt,
+            &first_answer(rt.alloc(), digits)?,
+            &Some(*wanted),
+            digits,
+        );
     }
     Ok(())
 }
@@ -68,15 +68,23 @@ fn longest(alloc: Global) -> Result<Vec<u8>, Fault> {
 
 #[test]
 fn longest_identifier(rt: HostRuntime) -> Result<(), Fail> {
-    let answers = answers(rt.alloc(), &longest(rt.alloc())?)?;
+    let answer = answer_to_bytes(rt.alloc(), &longest(rt.alloc())?)?;
     let wanted = FirstAnswer::Refuse(ConnectRefusal::ClientIdentifierNotValid);
-    assert!(rt; answers.is_some_and(|answers| answers.first == wanted));
+    assert_same(&rt, &answer, &Some(wanted));
     Ok(())
 }
 
-// What the client of a CONNECT asked for, with the limits 256 and 2.
-fn terms(alloc: Global, digits: &str) -> Result<Option<(Terms, Terms)>, Fault> {
-    Ok(answers_in(alloc, digits)?.and_then(|answers| answers.terms))
+// The Receive Maximum that the client of a CONNECT has under this limit.
+fn receive_maximum(
+    alloc: Global,
+    digits: &str,
+    max_inflight: MaxInflight,
+) -> Result<Option<u16>, Fault> {
+    match asked_for(alloc, digits, max_inflight) {
+        Ok(Some(terms)) => Ok(Some(terms.receive_maximum)),
+        Ok(None) => Ok(None),
+        Err(fault) => Err(fault),
+    }
 }
 
 #[test]
@@ -88,23 +96,29 @@ fn limits(rt: HostRuntime) -> Result<(), Fail> {
         assert!(rt; MaxInflight::new(*number).is_some_and(|limit| limit.get() == *number));
     }
     assert_same(&rt, &MaxInflight::most().get(), &256);
+    for number in &[0, 65_537, u32::MAX] {
+        assert!(rt; QueueCapacity::new(*number).is_none());
+    }
+    for number in &[1, 65_536] {
+        assert!(rt; QueueCapacity::new(*number).is_some_and(|capacity| capacity.get() == *number));
+    }
     Ok(())
 }
 
 // The Receive Maximum of a CONNECT, none, 1 and 5, and what it comes to with the limits 256 and 2.
 #[test]
 fn least_of_receive_maximum_and_limit(rt: HostRuntime) -> Result<(), Fail> {
+    let two = MaxInflight::new(2).ok_or("2 is a limit")?;
     let rows = [
-        (PLAIN, (256, 2)),
-        ("101200044D5154540502003C0321000100027731", (1, 1)),
-        ("101200044D5154540502003C0321000500027731", (5, 2)),
+        (PLAIN, 256, 2),
+        ("101200044D5154540502003C0321000100027731", 1, 1),
+        ("101200044D5154540502003C0321000500027731", 5, 2),
     ];
-    for (digits, wanted) in &rows {
-        let asked = terms(rt.alloc(), digits)?.map(|(most, two)| (
-            most.receive_maximum,
-            two.receive_maximum,
-        ));
-        assert_same_at(&rt, &asked, &Some(*wanted), digits);
+    for (digits, most, least) in &rows {
+        let asked = receive_maximum(rt.alloc(), digits, MaxInflight::most())?;
+        assert_same_at(&rt, &asked, &Some(*most), digits);
+        let asked = receive_maximum(rt.alloc(), digits, two)?;
+        assert_same_at(&rt, &asked, &Some(*least), digits);
     }
     Ok(())
 }
@@ -115,10 +129,14 @@ fn terms_of_clients(rt: HostRuntime) -> Result<(), Fail> {
         receive_maximum: 256,
         session_expiry_interval: 0,
         keep_alive: 60,
-        takes_all_packets: true,
+        maximum_packet_size: None,
     };
-    let few = Terms {
-        takes_all_packets: false,
+    let least = Terms {
+        maximum_packet_size: MaximumPacketSize::new(64),
+        ..plain
+    };
+    let many = Terms {
+        maximum_packet_size: MaximumPacketSize::new(65_535),
         ..plain
     };
     let asked = Terms {
@@ -129,13 +147,12 @@ fn terms_of_clients(rt: HostRuntime) -> Result<(), Fail> {
     let asks = "101700044D5154540502003C08110000000521000200027731";
     let rows = [
         (PLAIN, plain),
-        (TAKES_65_535, few),
-        (TAKES_65_541, few),
-        (TAKES_65_542, plain),
+        (TAKES_64, least),
+        (TAKES_65_535, many),
         (asks, asked),
     ];
     for (digits, wanted) in &rows {
-        let asked = terms(rt.alloc(), digits)?.map(|(most, _)| most);
+        let asked = asked_for(rt.alloc(), digits, MaxInflight::most())?;
         assert_same_at(&rt, &asked, &Some(*wanted), digits);
     }
     assert!(rt; plain.is_given_expiry(1) && !plain.is_given_expiry(0));
@@ -225,27 +242,16 @@ fn code_of(answer: &EntryAnswer) -> Option<ReasonCode> {
 }
 
 // The Reason Code of the last entry of a SUBSCRIBE.
-fn code_of_last(subscribe: Subscribe, terms: &Terms) -> Option<ReasonCode> {
+fn code_of_last(subscribe: Subscribe) -> Option<ReasonCode> {
     let mut entries = subscribe.subscriptions.into_vec();
-    let answer = answer_to_entry(entries.pop()?, terms);
+    let answer = answer_to_entry(entries.pop()?);
     code_of(&answer)
 }
 
-// The Reason Code of the one entry of a SUBSCRIBE, of a client that takes packets of any size or not; `None` where it asks to
-// join a group.
-fn entry(
-    alloc: Global,
-    digits: &str,
-    takes_all_packets: bool,
-) -> Result<Option<ReasonCode>, Fault> {
-    let terms = Terms {
-        receive_maximum: 1,
-        session_expiry_interval: 0,
-        keep_alive: 0,
-        takes_all_packets,
-    };
+// The Reason Code of the one entry of a SUBSCRIBE; `None` where it asks to join a group.
+fn entry(alloc: Global, digits: &str) -> Result<Option<ReasonCode>, Fault> {
     match packet(alloc, digits) {
-        Ok(Some(Packet::Subscribe(subscribe))) => Ok(code_of_last(subscribe, &terms)),
+        Ok(Some(Packet::Subscribe(subscribe))) => Ok(code_of_last(subscribe)),
         Ok(other) => {
             drop(other);
             Err(Fault::Stream(StreamFault::Malformed))
@@ -259,18 +265,17 @@ fn entries_of_a_subscribe(rt: HostRuntime) -> Result<(), Fail> {
     let unsuited = Some(ReasonCode::IMPLEMENTATION_SPECIFIC_ERROR);
     let invalid = Some(ReasonCode::TOPIC_FILTER_INVALID);
     let rows = [
-        ("8212000100000C2473686172652F672F6A6F6201", true, None),
-        ("8212000100000C2473686172652F672F6A6F6201", false, unsuited),
-        ("8212000100000C2473686172652F672F6A6F6202", true, None),
-        ("8212000100000C2473686172652F672F6A6F6200", true, unsuited),
-        ("820700010000016101", true, unsuited),
-        ("82080001000002612301", true, invalid),
-        ("820E00010000082473686172652F6701", true, invalid),
-        ("82090001020B0500016101", true, unsuited),
-        ("82140001020B05000C2473686172652F672F6A6F6201", true, None),
+        ("8212000100000C2473686172652F672F6A6F6201", None),
+        ("8212000100000C2473686172652F672F6A6F6202", None),
+        ("8212000100000C2473686172652F672F6A6F6200", unsuited),
+        ("820700010000016101", unsuited),
+        ("82080001000002612301", invalid),
+        ("820E00010000082473686172652F6701", invalid),
+        ("82090001020B0500016101", unsuited),
+        ("82140001020B05000C2473686172652F672F6A6F6201", None),
     ];
-    for (digits, takes_all, wanted) in &rows {
-        assert_same_at(&rt, &entry(rt.alloc(), digits, *takes_all)?, wanted, digits);
+    for (digits, wanted) in &rows {
+        assert_same_at(&rt, &entry(rt.alloc(), digits)?, wanted, digits);
     }
     Ok(())
 }

@@ -8,15 +8,6 @@ use mqtt_packet::{Packet, ReasonCode};
 use mqtt_wire::Splitter;
 use std::alloc::Global;
 
-/// What the rules say of a first packet.
-#[derive(Clone, Copy)]
-pub struct Told {
-    /// The answer to it.
-    pub first: FirstAnswer,
-    /// What the client of a CONNECT asked for, where the broker lets it have 256 messages and where it lets it have 2.
-    pub terms: Option<(Terms, Terms)>,
-}
-
 /// The first packet of these bytes; `None` where there is none.
 fn read(alloc: Global, bytes: &[u8]) -> Result<Option<Packet>, Fault> {
     let mut splitter = Splitter::new(alloc);
@@ -32,43 +23,48 @@ pub fn packet(alloc: Global, digits: &str) -> Result<Option<Packet>, Fault> {
     }
 }
 
-/// What a client asked for, where its packet is a CONNECT, with each of two limits.
-fn terms_in(packet: &Packet) -> Option<(Terms, Terms)> {
-    let two = MaxInflight::new(2)?;
+/// What a client asked for under this limit, where its packet is a CONNECT.
+fn terms_in(packet: &Packet, max_inflight: MaxInflight) -> Option<Terms> {
     match packet {
-        Packet::Connect(connect) => Some((
-            terms_of(MaxInflight::most(), connect),
-            terms_of(two, connect),
-        )),
+        Packet::Connect(connect) => Some(terms_of(max_inflight, connect)),
         _ => None,
     }
 }
 
-/// What the rules say of a first packet.
-fn answers_to(packet: &Packet) -> Told {
-    Told {
-        first: answer_to_first(packet),
-        terms: terms_in(packet),
-    }
-}
-
-/// What the rules say of the first packet of these bytes; `None` where there is none.
-pub fn answers(alloc: Global, bytes: &[u8]) -> Result<Option<Told>, Fault> {
-    match read(alloc, bytes) {
+/// What the client of the CONNECT that hex digits say asked for, under this limit; `None` where they say none.
+pub fn asked_for(
+    alloc: Global,
+    digits: &str,
+    max_inflight: MaxInflight,
+) -> Result<Option<Terms>, Fault> {
+    match packet(alloc, digits) {
         Ok(Some(packet)) => {
-            let told = answers_to(&packet);
+            let terms = terms_in(&packet, max_inflight);
             drop(packet);
-            Ok(Some(told))
+            Ok(terms)
         }
         Ok(None) => Ok(None),
         Err(fault) => Err(fault),
     }
 }
 
-/// What the rules say of the first packet of what hex digits say; `None` where there is none.
-pub fn answers_in(alloc: Global, digits: &str) -> Result<Option<Told>, Fault> {
+/// The answer to the first packet of these bytes; `None` where there is none.
+pub fn answer_to_bytes(alloc: Global, bytes: &[u8]) -> Result<Option<FirstAnswer>, Fault> {
+    match read(alloc, bytes) {
+        Ok(Some(packet)) => {
+            let first = answer_to_first(&packet);
+            drop(packet);
+            Ok(Some(first))
+        }
+        Ok(None) => Ok(None),
+        Err(fault) => Err(fault),
+    }
+}
+
+/// The answer to the first packet of what hex digits say; `None` where there is none.
+pub fn first_answer(alloc: Global, digits: &str) -> Result<Option<FirstAnswer>, Fault> {
     match hex::decode(alloc, digits) {
-        Ok(bytes) => answers(alloc, &bytes),
+        Ok(bytes) => answer_to_bytes(alloc, &bytes),
         Err(_) => Ok(None),
     }
 }

@@ -9,7 +9,7 @@ use crate::one_thread::telling::tell;
 use broker_groups::{Broker, BrokerPlace, Key};
 use client_table::{CLIENTS, ClientTable, StepOutput};
 use conn_engine::Opening;
-use conn_rules::{MaxInflight, Setup};
+use conn_rules::{MaxInflight, QueueCapacity, Setup};
 use conn_supply::{HoldingPlace, NoMemory, Supply};
 use drive::drive_lines;
 use gate_word::Gate;
@@ -169,7 +169,7 @@ fn setup(alloc: Global, scenario: &Scenario<'_>) -> Option<Setup> {
         let _slot = groups.bind(share_of(alloc, *text)?).ok()?;
     }
     Some(Setup {
-        capacity: scenario.capacity,
+        capacity: QueueCapacity::new(scenario.capacity)?,
         max_inflight: MaxInflight::most(),
         groups,
     })
@@ -212,8 +212,8 @@ fn compare_reports(rt: &impl Abort, alloc: Global, name: &str, lines: &str, coun
 /// A scenario writes the same over both, and each group's report counts the same.
 fn compare<R: Wait + Abort>(rt: &R, alloc: Global, scenario: &Scenario<'_>) {
     let mut stage = Stage::of(alloc, scenario);
-    let capacity = scenario.capacity.max(1).min(65_536);
-    let counts = work_alone(rt, alloc, capacity, &mut stage).expect(rt, "a day");
+    let capacity = QueueCapacity::new(scenario.capacity).expect(rt, "a capacity");
+    let counts = work_alone(rt, alloc, capacity.get() as usize, &mut stage).expect(rt, "a day");
     let wanted = by_server(alloc, scenario).expect(rt, "a run");
     assert!(rt; wanted.starts_with(&stage.text), "{}", scenario.name);
     let lines = wanted.get(stage.text.len()..).unwrap_or(b"");

@@ -1,23 +1,20 @@
 use Rattle.std.proofs.Common.{◌∙◌, ◌≡◌, [], codes, inr, map, refl, subst, sym}
-use Rattle.std.specs.Str.Parse.{ExplainsUnsignedError, HasUnsignedDigitsIfOk, ParsesUnsigned}
 use Rattle.std.specs.Borrow.{Bor}
 use Rattle.clap.specs.Words.{Text, all_of, found_of, rows_of}
 use Rattle.arguments.specs.Groups.{AddsEach, RefusesOne}
 use Rattle.arguments.specs.CommandLine.{HaveCapacity, HaveMaxInflight, pairs_in}
-use Rattle.arguments.proofs.Read.{all_is, number_read, one_is, values_are}
+use Rattle.arguments.proofs.Read.{all_is, values_are}
 use Rattle.arguments.proofs.command.setup.Goals as goal
 
 pub returns-in-Ok-clause-ok : goal.returns-in-Ok-clause-ok
 returns-in-Ok-clause-ok c =
     let found = found_of c.args.options.now in
-    let number = c.requires.capacity.0 in
-    let asked = c.requires.capacity.1 in
-    let read = c.get_one.ensures.value asked.text (sym (one_is found (codes "capacity")) ∙ c.requires.as_written ∙ asked.value) in
-    let capacity : c.unwrap_or-capacity.result ≡ number = c.unwrap_or-capacity.ensures
-    ∙ number_read (λ bs r. ParsesUnsigned 32 10 bs r × ExplainsUnsignedError 10 bs r × HasUnsignedDigitsIfOk bs r) asked.text number 1024 c.get_one.result read (λ u x g. g.0) asked.spelled asked.to in
     let pairs : map (λ (v : Bor Text). v.now) c.unwrap_or.result.now ≡ pairs_in (rows_of found) = rw c.unwrap_or.ensures (values_are c.get_strs.result _ (all_of (codes "group") (rows_of found)) refl (c.get_strs.ensures ∙ sym (all_is found (codes "group")))) in
-    let all : AddsEach [] (map (λ (v : Bor Text). v.now) c.unwrap_or.result.now) c.in-Ok.groups = rw c.in-Ok.is at c.in_ok-groups.ensures in
-    (subst (HaveCapacity (rows_of found)) (sym capacity) asked, subst (HaveMaxInflight (rows_of found)) (sym c.limit_of.ensures) c.packets-packets.ensures, subst (λ texts. AddsEach [] texts c.in-Ok.groups) pairs all)
+    let all : AddsEach [] (map (λ (v : Bor Text). v.now) c.unwrap_or.result.now) c.in-Ok.groups = rw c.in-Ok.is at c.in_ok-groups.ensures in (
+      subst (HaveCapacity (rows_of found)) (sym c.capacity_of.ensures) c.messages-messages.ensures,
+      subst (HaveMaxInflight (rows_of found)) (sym c.limit_of.ensures) c.packets-packets.ensures,
+      subst (λ texts. AddsEach [] texts c.in-Ok.groups) pairs all,
+    )
 
 pub returns-in_ok-error-in-Err-clause-err : goal.returns-in_ok-error-in-Err-clause-err
 returns-in_ok-error-in-Err-clause-err c =

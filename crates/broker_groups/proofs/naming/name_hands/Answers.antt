@@ -1,5 +1,5 @@
 -- One worker's ports more have the broker's name.
-use Rattle.std.proofs.Common.{◌≡◌, ◌+◌, length, List, arith}
+use Rattle.std.proofs.Common.{List, arith}
 use Rattle.std.specs.Prelude.{sum_by}
 use Rattle.std.specs.Global.{Vec}
 use Rattle.group_queue.specs.Ports.{PortState}

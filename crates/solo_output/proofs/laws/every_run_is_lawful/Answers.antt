@@ -5,6 +5,7 @@ use Rattle.solo_output.proofs.Lasting.{lasts_ran}
 use Rattle.solo_output.proofs.StepLaws.{step_goes_to}
 use Rattle.solo_output.proofs.Lawful.{kept_of, fits_all, within_maximum, accepted_all, told_all, own_all, bound_all, silent, settles_one, settled_all, eager_all}
 use Rattle.solo_output.proofs.Grouped.{groups_all, slots_all, fates_all}
+use Rattle.solo_output.proofs.Unfit.{discarded_all}
 use Rattle.solo_output.proofs.laws.every_run_is_lawful.Goals as goal
 
 pub returns-clause-receive_maximum : goal.returns-clause-receive_maximum
@@ -33,6 +34,9 @@ returns-clause-waiting c setup packets slot = ((kept_of setup packets).lives slo
 
 pub returns-clause-in_order : goal.returns-clause-in_order
 returns-clause-in_order c setup packets slot = ((told_all setup packets).many, (kept_of setup packets).order slot, (told_all setup packets).each slot)
+
+pub returns-clause-discarded : goal.returns-clause-discarded
+returns-clause-discarded c = discarded_all
 
 pub returns-clause-members : goal.returns-clause-members
 returns-clause-members c setup packets packet = step_goes_to packet (run_of setup packets).solo

@@ -1,22 +1,25 @@
 -- What the run of a client's stream wrote is the output for its input.
-use Rattle.std.proofs.Common.{◌≡◌, ◌≤◌, List, length, subst}
+use Rattle.std.proofs.Common.{◌≡◌, ◌≤◌, ℕ, List, length, subst}
 use Rattle.std.proofs.lemmas.Option.{IfSome_then}
 use Rattle.std.proofs.lemmas.Result.{on_ok_weaker}
 use Rattle.mqtt_topic.specs.Names.{Share}
+use Rattle.conn_rules.specs.Setups.{most_capacity}
+use Rattle.solo_output.proofs.Brokers.{FitsBroker}
 use Rattle.solo_output.proofs.Streams.{bad_lines}
 use Rattle.solo_output.proofs.Output.{written, begun}
 use Rattle.solo_output.proofs.run.solo.Goals as goal
 
-few_of : (shares groups : List Share) → shares ≡ groups → length shares ≤ 8 → length groups ≤ 8
-few_of shares groups are few = subst (λ (those : List Share). length those ≤ 8) are few
+fits_of : (shares groups : List Share) (number capacity : ℕ) → shares ≡ groups → length shares ≤ 8 → number ≡ capacity → number ≤ most_capacity → FitsBroker capacity groups
+fits_of shares groups number capacity are few is small =
+    record { few = subst (λ (those : List Share). length those ≤ 8) are few; small = subst (λ (n : ℕ). n ≤ most_capacity) is small }
 
 pub returns-clause-ended : goal.returns-clause-ended
 returns-clause-ended g c =
-    let few = few_of c.shares.result.now c.args.setup.groups c.shares.ensures.value c.shares.ensures.few in
+    let fits = fits_of c.shares.result.now c.args.setup.groups c.get.result c.args.setup.capacity c.shares.ensures.value c.shares.ensures.few c.get.ensures.value c.get.ensures.within.1 in
     on_ok_weaker c.drive_client.result
     (λ wrote.
     IfSome_then (g.R.Read.remaining c.args.reader.now) wrote
-    (λ input writes. written c.args.setup input (g.W.Write.contents c.args.writer.now) (g.W.Write.contents c.drive_client.new.writer) few writes))
+    (λ input writes. written c.args.setup input (g.W.Write.contents c.args.writer.now) (g.W.Write.contents c.drive_client.new.writer) fits writes))
     c.drive_client.ensures.ended
 
 pub returns-clause-bad_line : goal.returns-clause-bad_line
@@ -25,6 +28,6 @@ returns-clause-bad_line g c line is =
 
 pub returns-clause-begun : goal.returns-clause-begun
 returns-clause-begun g c is =
-    let few = few_of c.shares.result.now c.args.setup.groups c.shares.ensures.value c.shares.ensures.few in
+    let fits = fits_of c.shares.result.now c.args.setup.groups c.get.result c.args.setup.capacity c.shares.ensures.value c.shares.ensures.few c.get.ensures.value c.get.ensures.within.1 in
     IfSome_then (g.R.Read.remaining c.args.reader.now) (c.drive_client.ensures.begun is)
-    (λ input begins. begun c.args.setup input (g.W.Write.contents c.args.writer.now) (g.W.Write.contents c.drive_client.new.writer) few begins)
+    (λ input begins. begun c.args.setup input (g.W.Write.contents c.args.writer.now) (g.W.Write.contents c.drive_client.new.writer) fits begins)

@@ -1,0 +1,6 @@
+-- What a broker begins with.
+use Rattle.std.specs.Prelude.{ℕ}
+
+-- the most messages that may wait in the queue of a group (profile)
+abbrev pub most_capacity : ℕ
+most_capacity = 65536
