@@ -4,6 +4,6 @@ mod Faultless
 mod Numbers
 mod OneRequest
 mod Read
-mod ServeLine
 mod Stops
 mod Taken
+mod Values

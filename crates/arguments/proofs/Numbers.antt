@@ -21,7 +21,8 @@ use Rattle.clap.specs.declared.parser.matches.ValueSource.{ValueSource}
 use Rattle.clap.specs.declared.parser.matches.ValueSource.TheVariants.{CommandLine, DefaultValue}
 use Rattle.clap.specs.declared.error.kind.ErrorKind.TheVariants.{ArgumentConflict, InvalidValue, ValueValidation, WrongNumberOfValues}
 use Rattle.clap.proofs.ValueTestLemmas.{accepts-Accepts}
-use Rattle.arguments.specs.CommandLine.{HaveNumber, Spells, capacity_option, command_line, command_named, group_option, max_inflight_option}
+use Rattle.arguments.specs.Options.{HaveNumber, Spells, capacity_option, group_option, max_inflight_option}
+use Rattle.arguments.specs.CommandLine.{command_line, command_named}
 use Rattle.arguments.proofs.Faultless.{chosen, level_parts, neither, not_chosen, turn_parts}
 
 -- ---- a command as it is built

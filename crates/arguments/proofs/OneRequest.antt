@@ -1,19 +1,26 @@
 -- Words ask for one thing.
-use Rattle.std.proofs.Common.{◌≡◌, ◌∙◌, ℕ, List, [], ◌∷◌, Option, Some, None, Ok, Err, ap, arith, codes, inl, inr, rules, subst, sym}
+use Rattle.std.proofs.Common.{◌≡◌, ◌∙◌, ◌≤◌, ℕ, List, [], ◌∷◌, Option, Some, None, Ok, Err, ap, arith, codes, inl, inr, rules, subst, sym}
 use Rattle.std.specs.Prelude.{IsSome, unwrap_or}
 use Rattle.std.specs.Str.Parse.{digits_value, without_leading_plus}
+use Rattle.std.specs.Coded.{×_prop, le_prop}
+use mathlib.Core.HLevel.{is_prop→PathP}
+use Rattle.std.specs.Net.Grammar.{IsIpv4Text}
+use Rattle.std.proofs.NetLemmas.Theorems.{IsIpv4Text_unique}
 use Rattle.mqtt_topic.specs.Names.{Share}
 use Rattle.clap.specs.Words.{IsAmong, Row, Text, fault_of, subcommand_of}
 use Rattle.clap.specs.Kinds.{Kinds}
 use Rattle.clap.specs.declared.error.kind.ErrorKind.{ErrorKind}
 use Rattle.conn_rules.specs.declared.setup.Setup.{Setup}
 use Rattle.arguments.specs.Groups.{Adds, AddsEach, RefusesOne, share_named}
-use Rattle.arguments.specs.CommandLine.{AreReadAs, AskFor, HaveNumber, IsSetupBy, SpellNoRequest, command_line, pairs_in}
+use Rattle.arguments.specs.Options.{HasNumber, HaveNumber, pairs_in}
+use Rattle.arguments.specs.CommandLine.{AreReadAs, AskFor, HaveNoService, HaveRefusedPair, IsServiceBy, IsSetupBy, SpellNoRequest, command_line}
 use Rattle.arguments.specs.declared.command.Request.{Request}
-use Rattle.arguments.specs.declared.command.Request.TheVariants.{Drive, Solo}
+use Rattle.arguments.specs.declared.command.Request.TheVariants.{Drive, Serve, Solo}
 use Rattle.arguments.specs.declared.groups.Refusal.{Refusal}
 use Rattle.arguments.specs.declared.groups.Refusal.TheVariants.{Ninth, NoShare, Twice}
+use Rattle.arguments.specs.declared.service.ServeOptions.{ServeOptions}
 use Rattle.arguments.proofs.Taken.{same_pair}
+use Rattle.arguments.proofs.Values.{same_text, spelled_once}
 
 adds_one : (old : List Share) (share : Option Share) (a b : List Share) → Adds old share (Ok tt) a → Adds old share (Ok tt) b → b ≡ a
 adds_one old None a b (bad, same) h = cc
@@ -52,11 +59,44 @@ one_setup rows a b h i =
     let groups = each_one (pairs_in rows) [] a.groups b.groups h.2 i.2 in
     (λ i. made (capacity i) (max_inflight i) (groups i))
 
+one_number_read : (id : Text) (least most : ℕ) (rows : List Row) (a b : ℕ) → HasNumber id least most rows a → HasNumber id least most rows b → a ≡ b
+one_number_read id least most rows a b h i = spelled_once h.text i.text a b (same_text _ h.text i.text h.value i.value) h.spelled i.spelled
+
+one_address : (rows : List Row) (a b : ServeOptions) → IsServiceBy rows a → IsServiceBy rows b → a.address ≡ b.address
+one_address rows a b h i =
+    IsIpv4Text_unique i.text a.address b.address (subst (λ text. IsIpv4Text text a.address) (same_text _ h.text i.text h.value i.value) h.address) i.address
+
+abbrev IsFew : ℕ → Type 0
+IsFew workers = (1 ≤ workers) × (workers ≤ 64)
+
+one_service : (rows : List Row) (a b : ServeOptions) → IsServiceBy rows a → IsServiceBy rows b → a ≡ b
+one_service rows a b h i =
+    let made : ℕ → ℕ → List Share → Setup = λ capacity max_inflight groups. record { capacity = capacity; max_inflight = max_inflight; groups = groups } in
+    let address = one_address rows a b h i in
+    let port = one_number_read (codes "port") 0 65535 rows a.port b.port h.port i.port in
+    let workers = one_number_read (codes "workers") 1 64 rows a.workers b.workers h.workers i.workers in
+    let capacity = one_number_read (codes "capacity") 1 65536 rows a.setup.capacity b.setup.capacity h.capacity i.capacity in
+    let max_inflight = one_number_read (codes "max-inflight") 1 256 rows a.setup.max_inflight b.setup.max_inflight h.max_inflight i.max_inflight in
+    let groups = each_one (pairs_in rows) [] a.setup.groups b.setup.groups h.groups i.groups in
+    (λ i. record { address = address i; port = port i; workers = workers i; setup = made (capacity i) (max_inflight i) (groups i); few = is_prop→PathP (λ j. IsFew (workers j)) (λ j. ×_prop le_prop le_prop) a.few b.few i })
+
 one_reading : (words : List Text) (a b : Text) (x y : List Row) → AreReadAs words a x → AreReadAs words b y → (a ≡ b) × (y ≡ x)
 one_reading words a b x y h i = same_pair (subcommand_of command_line words) a b x y h.1 i.1
 
 not_drive : codes "solo" ≡ codes "drive" → ⊥
 not_drive e = cc
+
+not_serve : codes "solo" ≡ codes "serve" → ⊥
+not_serve e = cc
+
+abbrev first_letter : Text → ℕ
+first_letter [] = 0
+first_letter (letter ∷ letters) = letter
+
+drive_not_serve : codes "drive" ≡ codes "serve" → ⊥
+drive_not_serve e =
+    let letters : 100 ≡ 115 = ap first_letter e in
+    absurd (omega (arith, letters))
 
 pub one : (words : List Text) (a b : Request) → AskFor words a → AskFor words b → a ≡ b
 one words (Solo a) (Solo b) (x, read, setup) (y, read', setup') =
@@ -67,17 +107,36 @@ one words (Drive a) (Solo b) (x, read, setup) (y, read', setup') = absurd (not_d
 one words (Drive a) (Drive b) (x, read, setup) (y, read', setup') =
     let same = one_reading words (codes "drive") (codes "drive") x y read read' in
     ap Drive (one_setup x a b setup (subst (λ rows. IsSetupBy rows b) same.1 setup'))
+one words (Serve a) (Serve b) (x, read, service) (y, read', service') =
+    let same = one_reading words (codes "serve") (codes "serve") x y read read' in
+    ap Serve (one_service x a b service (subst (λ rows. IsServiceBy rows b) same.1 service'))
+one words (Solo a) (Serve b) (x, read, setup) (y, read', service) = absurd (not_serve (one_reading words (codes "solo") (codes "serve") x y read read').0)
+one words (Serve a) (Solo b) (x, read, service) (y, read', setup) = absurd (not_serve (sym (one_reading words (codes "serve") (codes "solo") x y read read').0))
+one words (Drive a) (Serve b) (x, read, setup) (y, read', service) = absurd (drive_not_serve (one_reading words (codes "drive") (codes "serve") x y read read').0)
+one words (Serve a) (Drive b) (x, read, service) (y, read', setup) = absurd (drive_not_serve (sym (one_reading words (codes "serve") (codes "drive") x y read read').0))
 
 among_none : (kind : ErrorKind) (kinds : Kinds) → kinds ≡ [] → IsAmong kind kinds → ⊥
 among_none kind [] none among = among
 among_none kind (k ∷ ks) none among = cc
 
-read_exclusive : (words : List Text) (kind : ErrorKind) (name : Text) (rows : List Row) (setup : Setup) → AreReadAs words name rows → IsSetupBy rows setup → SpellNoRequest words kind → ⊥
-read_exclusive words kind name rows setup read by (inl fault) = among_none kind (fault_of command_line words) read.0 fault
-read_exclusive words kind name rows setup read by (inr (is, (name', rows', refusal, read', refused))) =
+-- words that are read with groups that none refuses have no refused pair
+no_refused_pair : (words : List Text) (name : Text) (rows : List Row) (groups : List Share) → AreReadAs words name rows → AddsEach [] (pairs_in rows) groups → HaveRefusedPair words → ⊥
+no_refused_pair words name rows groups read adds (name', rows', refusal, read', refused) =
     let same = one_reading words name name' rows rows' read read' in
-    each_or_refused (pairs_in rows) [] setup.groups refusal by.2 (subst (λ rows. RefusesOne [] (pairs_in rows) refusal) same.1 refused)
+    each_or_refused (pairs_in rows) [] groups refusal adds (subst (λ rows. RefusesOne [] (pairs_in rows) refusal) same.1 refused)
+
+-- words that are read as another command do not ask for no service
+other_command : (words : List Text) (name : Text) (rows : List Row) → AreReadAs words name rows → (name ≡ codes "serve" → ⊥) → HaveNoService words → ⊥
+other_command words name rows read differs (rows', read', none) = differs (one_reading words name (codes "serve") rows rows' read read').0
 
 pub exclusive : (words : List Text) (request : Request) (kind : ErrorKind) → AskFor words request → SpellNoRequest words kind → ⊥
-exclusive words (Solo setup) kind (rows, read, by) none = read_exclusive words kind (codes "solo") rows setup read by none
-exclusive words (Drive setup) kind (rows, read, by) none = read_exclusive words kind (codes "drive") rows setup read by none
+exclusive words (Solo setup) kind (rows, read, by) (inl fault) = among_none kind (fault_of command_line words) read.0 fault
+exclusive words (Solo setup) kind (rows, read, by) (inr (is, inl pair)) = no_refused_pair words (codes "solo") rows setup.groups read by.2 pair
+exclusive words (Solo setup) kind (rows, read, by) (inr (is, inr none)) = other_command words (codes "solo") rows read not_serve none
+exclusive words (Drive setup) kind (rows, read, by) (inl fault) = among_none kind (fault_of command_line words) read.0 fault
+exclusive words (Drive setup) kind (rows, read, by) (inr (is, inl pair)) = no_refused_pair words (codes "drive") rows setup.groups read by.2 pair
+exclusive words (Drive setup) kind (rows, read, by) (inr (is, inr none)) = other_command words (codes "drive") rows read drive_not_serve none
+exclusive words (Serve service) kind (rows, read, by) (inl fault) = among_none kind (fault_of command_line words) read.0 fault
+exclusive words (Serve service) kind (rows, read, by) (inr (is, inl pair)) = no_refused_pair words (codes "serve") rows service.setup.groups read by.groups pair
+exclusive words (Serve service) kind (rows, read, by) (inr (is, inr (rows', read', none))) =
+    none service (subst (λ rows. IsServiceBy rows service) (sym (one_reading words (codes "serve") (codes "serve") rows rows' read read').1) by)

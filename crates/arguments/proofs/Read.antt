@@ -8,7 +8,7 @@ use Rattle.clap.specs.Words.{ReadsOne, Row, Text, all_of, matched_of, one_of, on
 use Rattle.clap.specs.Facts.{Entry}
 use Rattle.clap.specs.Walk.{row_of, row_text}
 use Rattle.clap.specs.declared.parser.matches.Found.{Found}
-use Rattle.arguments.specs.CommandLine.{Spells}
+use Rattle.arguments.specs.Options.{Spells}
 
 -- the row of an id is that of its entry
 found_row : (id : Text) (entries : List Entry) → find (λ (r : Row). bytes_eq r.id id) (map row_of entries) ≡ option_map row_of (find (λ e. bytes_eq e.0.now id) entries)

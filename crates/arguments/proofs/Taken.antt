@@ -4,15 +4,16 @@ use Rattle.std.specs.Option.{option_map_or}
 use Rattle.std.specs.Prelude.{unwrap_or}
 use Rattle.std.specs.Str.{bytes_eq}
 use Rattle.std.proofs.lemmas.Slice.Eq.{bytes_eq-Decides}
-use Rattle.clap.specs.Words.{App, HasMatchesOf, Row, Text, app_of, built, fault_of, is_simple, is_simple_and_free, subcommand_name_of, subcommand_of, subcommand_rows_of}
+use Rattle.clap.specs.Words.{App, HasKind, HasMatchesOf, Row, Text, app_of, built, fault_of, kind_of, is_simple, is_simple_and_free, subcommand_name_of, subcommand_of, subcommand_rows_of}
 use Rattle.clap.specs.Walk.{finished, nothing_held, rows_after, walk, walk_from}
-use Rattle.clap.specs.Simple.{Shape, built_leaf, entered, help_shape, names_of, rows_at}
+use Rattle.clap.specs.Simple.{Shape, built_leaf, entered, help_shape, inherited, marked_built, names_of, rows_at, with_leaf_noted}
 use Rattle.clap.specs.Faults.{check_fault, entered_fault, level_fault}
 use Rattle.clap.specs.declared.builder.command.Command.{Command}
-use Rattle.clap.specs.declared.error.kind.ErrorKind.TheVariants.{MissingSubcommand}
+use Rattle.clap.specs.declared.error.kind.ErrorKind.TheVariants.{MissingSubcommand, OutOfMemory}
+use Rattle.clap.specs.declared.error.Error.{Error}
 use Rattle.clap.specs.declared.parser.matches.ArgMatches.{ArgMatches, out-ArgMatches}
 use Rattle.clap.proofs.OnLiterals.{clap_on_literals}
-use Rattle.arguments.specs.CommandLine.{AreReadAs, command_line}
+use Rattle.arguments.specs.CommandLine.{AreReadAs, SpellNoRequest, command_line, serve_command}
 use Rattle.arguments.proofs.Faultless.{level_parts}
 use Rattle.arguments.proofs.Numbers.{HasNumbers, leaf, leaf_numbers, options}
 use Rattle.arguments.proofs.Stops.{IsNoHelp, walk_stop}
@@ -20,24 +21,33 @@ use Rattle.arguments.proofs.Stops.{IsNoHelp, walk_stop}
 abbrev line : App
 line = built command_line
 
--- one of the two commands, with its numbers
-abbrev IsCommand : Option (Text × List Row) → Type 0
-IsCommand o = (rows : List Row) × ((o ≡ Some (codes "solo", rows)) ⊎ (o ≡ Some (codes "drive", rows))) × HasNumbers rows
+-- a name is that of `solo` or `drive`, whose rows have the numbers, or that of `serve`
+abbrev pub IsNamed : Text → List Row → Type 0
+IsNamed name rows = (((name ≡ codes "solo") ⊎ (name ≡ codes "drive")) × HasNumbers rows) ⊎ (name ≡ codes "serve")
 
-abbrev chosen : Bool → Bool → Bool → Option Shape
-chosen solo drive help = cond (solo || false) (Some (leaf (codes "solo")))
-    (cond (drive || false) (Some (leaf (codes "drive"))) (cond (help || false) (Some (built_leaf help_shape)) None))
+-- one of the three commands
+abbrev IsCommand : Option (Text × List Row) → Type 0
+IsCommand o = (name : Text) × (rows : List Row) × (o ≡ Some (name, rows)) × IsNamed name rows
+
+-- `serve` as it is built
+abbrev serve : Shape
+serve = built_leaf (inherited (with_leaf_noted (marked_built command_line.top)) serve_command.top)
+
+abbrev chosen : Bool → Bool → Bool → Bool → Option Shape
+chosen solo drive serves help = cond (solo || false) (Some (leaf (codes "solo")))
+    (cond (drive || false) (Some (leaf (codes "drive"))) (cond (serves || false) (Some serve) (cond (help || false) (Some (built_leaf help_shape)) None)))
 
 enters : (stop : Option (Text × List Text)) → IsNoHelp stop → entered_fault line stop ≡ [] → is_some (entered line stop) ≡ true → IsCommand (entered line stop)
 enters None good e some = cc
-enters (Some p) good e some = go (bytes_eq (codes "solo") p.0) (bytes_eq (codes "drive") p.0) (bytes_eq (codes "help") p.0) refl e some
+enters (Some p) good e some = go (bytes_eq (codes "solo") p.0) (bytes_eq (codes "drive") p.0) (bytes_eq (codes "serve") p.0) (bytes_eq (codes "help") p.0) refl e some
   where
-    go : (a b c : Bool) → bytes_eq (codes "help") p.0 ≡ c → option_map_or (λ s. level_fault s [] nothing_held p.1 false []) (chosen a b c) [] ≡ []
-        → is_some (option_map (λ s. rows_at s p.1) (chosen a b c)) ≡ true → IsCommand (option_map (λ s. rows_at s p.1) (chosen a b c))
-    go true b c is e some = (rows_after options [] p.1, inl refl, leaf_numbers (codes "solo") p.1 e)
-    go false true c is e some = (rows_after options [] p.1, inr refl, leaf_numbers (codes "drive") p.1 e)
-    go false false true is e some = absurd (good (sym ((bytes_eq-Decides (codes "help") p.0).0 is)))
-    go false false false is e some = cc
+    go : (a b c d : Bool) → bytes_eq (codes "help") p.0 ≡ d → option_map_or (λ s. level_fault s [] nothing_held p.1 false []) (chosen a b c d) [] ≡ []
+        → is_some (option_map (λ s. rows_at s p.1) (chosen a b c d)) ≡ true → IsCommand (option_map (λ s. rows_at s p.1) (chosen a b c d))
+    go true b c d is e some = (codes "solo", rows_after options [] p.1, refl, inl (inl refl, leaf_numbers (codes "solo") p.1 e))
+    go false true c d is e some = (codes "drive", rows_after options [] p.1, refl, inl (inr refl, leaf_numbers (codes "drive") p.1 e))
+    go false false true d is e some = (codes "serve", rows_after serve.rules [] p.1, refl, inr refl)
+    go false false false true is e some = absurd (good (sym ((bytes_eq-Decides (codes "help") p.0).0 is)))
+    go false false false false is e some = cc
 
 wanted : (has : Bool) (rows : List Row) → check_fault line.top rows has ≡ [] → has ≡ true
 wanted true rows e = refl
@@ -45,7 +55,7 @@ wanted false rows e =
     let bad : MissingSubcommand ∷ [] ≡ [] = e in
     cc
 
--- words without a fault name one of the two commands, with its numbers
+-- words without a fault name one of the three commands
 taken : (words : List Text) → fault_of command_line words ≡ [] → IsCommand (subcommand_of command_line words)
 taken words e =
     let stop = (walk line.top.rules (names_of line) nothing_held (drop 1 words)).stopped in
@@ -65,6 +75,16 @@ is_plain = refl
 pub no_fault : (command : Command) (words : List Text) → app_of command ≡ command_line → (is_simple_and_free (app_of command) ≡ true → fault_of (app_of command) words ≡ [])
     → fault_of command_line words ≡ []
 no_fault command words line fault = sym (ap (λ (a : App). fault_of a words) line) ∙ fault (ap is_simple_and_free line ∙ is_free)
+
+-- an error of clap is for lack of memory, or is of a fault that it found
+pub fault_found : (command : Command) (words : List Text) (error : Error) → app_of command ≡ command_line
+    → (is_simple_and_free (app_of command) ≡ true → HasKind (fault_of (app_of command) words) error)
+    → (kind_of error ≡ OutOfMemory) ⊎ SpellNoRequest words (kind_of error)
+fault_found command words error line fails = go (subst (λ (a : App). HasKind (fault_of a words) error) line (fails (ap is_simple_and_free line ∙ is_free)))
+  where
+    go : HasKind (fault_of command_line words) error → (kind_of error ≡ OutOfMemory) ⊎ SpellNoRequest words (kind_of error)
+    go (inl memory) = inl memory
+    go (inr among) = inr (inl among)
 
 -- the command that was entered is the one that the words name
 entered_is : (command : Command) (words : List Text) (matches : ArgMatches) → app_of command ≡ command_line → HasMatchesOf (app_of command) words matches
@@ -100,8 +120,7 @@ some_command command words matches line fault has none = go (taken words (no_fau
     none_here = none ∙ ap (option_map (λ (p : Text × List Row). p.1)) (entered_is command words matches line has)
 
     go : IsCommand (subcommand_of command_line words) → ⊥
-    go (rows, inl is, numbers) = none_some (subcommand_of command_line words) (codes "solo", rows) none_here is
-    go (rows, inr is, numbers) = none_some (subcommand_of command_line words) (codes "drive", rows) none_here is
+    go (name, rows, is, named) = none_some (subcommand_of command_line words) (name, rows) none_here is
 
 pub same_pair : (o : Option (Text × List Row)) (a b : Text) (x y : List Row) → o ≡ Some (a, x) → o ≡ Some (b, y) → (a ≡ b) × (y ≡ x)
 same_pair o a b x y e f =
@@ -110,14 +129,11 @@ same_pair o a b x y e f =
       sym (ap (λ (o : Option (Text × List Row)). (unwrap_or o (a, x)).1) both),
     )
 
--- it is one of the two commands, with its numbers
-pub command_facts : (words : List Text) (name : Text) (rows : List Row) → AreReadAs words name rows → ((name ≡ codes "solo") ⊎ (name ≡ codes "drive")) × HasNumbers rows
+-- it is one of the three commands
+pub command_facts : (words : List Text) (name : Text) (rows : List Row) → AreReadAs words name rows → IsNamed name rows
 command_facts words name rows (faultless, is) = go (taken words faultless)
   where
-    go : IsCommand (subcommand_of command_line words) → ((name ≡ codes "solo") ⊎ (name ≡ codes "drive")) × HasNumbers rows
-    go (held, inl solo, numbers) =
-        let p = same_pair (subcommand_of command_line words) name (codes "solo") rows held is solo in
-        (inl p.0, subst HasNumbers p.1 numbers)
-    go (held, inr drive, numbers) =
-        let p = same_pair (subcommand_of command_line words) name (codes "drive") rows held is drive in
-        (inr p.0, subst HasNumbers p.1 numbers)
+    go : IsCommand (subcommand_of command_line words) → IsNamed name rows
+    go (other, held, here, named) =
+        let p = same_pair (subcommand_of command_line words) name other rows held is here in
+        subst (λ (name : Text). IsNamed name rows) (sym p.0) (subst (IsNamed other) p.1 named)

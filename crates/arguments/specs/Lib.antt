@@ -1,3 +1,3 @@
 pub mod CommandLine
 pub mod Groups
-pub mod ServeLine
+pub mod Options

@@ -1,16 +1,16 @@
-//! The command line.
-ghost use Rattle.std.specs.Prelude.{◌≡◌, ◌≤◌, ◌⊎◌, ℕ, codes, IfOk, IfErr, [], map};
+//! The command line: its commands, and what its words ask for.
+ghost use Rattle.std.specs.Prelude.{◌≡◌, ◌⊎◌, IfOk, IfErr, map};
 ghost use Rattle.std.specs.String.{string_bytes};
-ghost use Rattle.clap.specs.Words.{app_of, first_of, found_of, kind_of, one_of, rows_of, rule_of};
-ghost use Rattle.arguments.specs.Groups.{RefusesOne};
-ghost use Rattle.arguments.specs.CommandLine.{capacity_option, group_option, max_inflight_option, command_named};
-ghost use Rattle.arguments.specs.CommandLine.{command_line, pairs_in, HaveCapacity, HaveMaxInflight, IsSetupBy};
-ghost use Rattle.arguments.specs.CommandLine.{AskFor, SpellNoRequest};
+ghost use Rattle.clap.specs.Words.{app_of, kind_of};
+ghost use Rattle.arguments.specs.CommandLine.{command_line, command_named, serve_command, AskFor, SpellNoRequest};
 
-use crate::groups::groups_of;
+use crate::options::{address, capacity, group, max_inflight, port, workers};
+use crate::service::ServeOptions;
+use crate::serving::service_of;
+use crate::setup::setup_of;
 use clap::error::ErrorKind;
-use clap::{Arg, ArgAction, ArgMatches, Command, Error, value_parser};
-use conn_rules::{MaxInflight, QueueCapacity, Setup};
+use clap::{Command, Error};
+use conn_rules::Setup;
 use std::alloc::{AllocError, Global};
 
 /// What the words ask for.
@@ -20,13 +20,16 @@ pub enum Request {
     Solo(Setup),
     /// A server that is driven by events.
     Drive(Setup),
+    /// A broker on TCP.
+    Serve(ServeOptions),
 }
 
 /// What the words of a command line ask for, the program's name in front.
 ///
 /// # Errors
 ///
-/// The text of a fault, of the help, or of the version, as clap has them; [`ErrorKind::OutOfMemory`] for lack of memory.
+/// The text of a fault, of the help, or of the version, as clap has them; of a `--group` that is refused the text names it, and says why.
+/// [`ErrorKind::OutOfMemory`] for lack of memory.
 pub fn arguments(alloc: Global, words: &[String]) -> Result<Request, Error>
     ensures ok { IfOk result (AskFor (map string_bytes words.now)) }
     ensures err { IfErr result (λ error. (kind_of error ≡ ErrorKind.OutOfMemory)
@@ -36,12 +39,23 @@ pub fn arguments(alloc: Global, words: &[String]) -> Result<Request, Error>
     let Some((name, options)) = matches.subcommand() else {
         return Err(command(alloc)?.error(ErrorKind::MissingSubcommand, "a command is wanted")?);
     };
-    let setup = setup(alloc, options)?;
+    if name == "serve" {
+        let service = service_of(alloc, options)?;
+        return Ok(Request::Serve(service));
+    }
+    let setup = setup_of(alloc, options)?;
     if name == "drive" {
         Ok(Request::Drive(setup))
     } else {
         Ok(Request::Solo(setup))
     }
+}
+
+/// The error of a value that is refused.
+pub(crate) fn wrong(alloc: Global, text: &str) -> Result<Error, AllocError>
+    ensures { IfOk result (λ error. kind_of error ≡ ErrorKind.ValueValidation) }
+{
+    command(alloc)?.error(ErrorKind::ValueValidation, text)
 }
 
 /// The commands and their options.
@@ -58,15 +72,17 @@ fn command<'a>(alloc: Global) -> Result<Command<'a>, AllocError>
         "drive",
         "Runs the events on standard input, one a line, over up to 64 connections",
     )?;
+    let serve = serve_command(alloc)?;
     Command::new(alloc, "share_broker")
         .about("A dispatcher for MQTT 5.0 shared subscriptions")
         .version("0.1.0")
         .subcommand_required(true)
         .subcommand(solo)?
-        .subcommand(drive)
+        .subcommand(drive)?
+        .subcommand(serve)
 }
 
-/// A command with the three options.
+/// A command with the three options of a server.
 fn command_named<'a>(
     alloc: Global,
     name: &'a str,
@@ -81,104 +97,18 @@ fn command_named<'a>(
         .arg(group(alloc))
 }
 
-/// `--capacity N`.
-pub(crate) fn capacity<'a>(alloc: Global) -> Arg<'a>
-    ensures { rule_of result ≡ capacity_option }
+/// `serve` and its six options.
+fn serve_command<'a>(alloc: Global) -> Result<Command<'a>, AllocError>
+    ensures { IfOk result (λ command. app_of command ≡ serve_command) }
 {
-    Arg::new(alloc, "capacity")
-        .long("capacity")
-        .value_name("N")
-        .value_parser(value_parser!(u32).range(1..=65_536))
-        .default_value("1024")
-        .help("How many messages may wait in the queue of a group, 1 to 65536")
-}
-
-/// `--max-inflight N`.
-pub(crate) fn max_inflight<'a>(alloc: Global) -> Arg<'a>
-    ensures { rule_of result ≡ max_inflight_option }
-{
-    Arg::new(alloc, "max-inflight")
-        .long("max-inflight")
-        .value_name("N")
-        .value_parser(value_parser!(u32).range(1..=256))
-        .default_value("256")
-        .help("How many messages a client has unacknowledged at most, 1 to 256")
-}
-
-/// `--group NAME:FILTER`.
-pub(crate) fn group<'a>(alloc: Global) -> Arg<'a>
-    ensures { rule_of result ≡ group_option }
-{
-    Arg::new(alloc, "group")
-        .long("group")
-        .value_name("NAME:FILTER")
-        .action(ArgAction::Append)
-        .help("A group that is there from the start: $share/NAME/FILTER; at most eight")
-}
-
-/// What a server begins with, by the options of a command.
-fn setup(alloc: Global, options: &ArgMatches) -> Result<Setup, Error>
-    requires capacity { (number : ℕ) × HaveCapacity (rows_of (found_of options.now)) number }
-    requires as_written { one_of (codes "capacity") (rows_of (found_of options.now))
-        ≡ first_of (codes "capacity") (rows_of (found_of options.now)) }
-    requires max_inflight { (number : ℕ) × HaveMaxInflight (rows_of (found_of options.now)) number }
-    requires max_inflight_as_written { one_of (codes "max-inflight") (rows_of (found_of options.now))
-        ≡ first_of (codes "max-inflight") (rows_of (found_of options.now)) }
-    ensures ok { IfOk result (IsSetupBy (rows_of (found_of options.now))) }
-    ensures err { IfErr result (λ error. (kind_of error ≡ ErrorKind.OutOfMemory)
-        ⊎ ((kind_of error ≡ ErrorKind.ValueValidation)
-        × ((refusal : _) × RefusesOne [] (pairs_in (rows_of (found_of options.now))) refusal))) }
-{
-    let messages = messages(options);
-    let packets = packets(options);
-    match groups_of(alloc, options.get_strs("group").unwrap_or(&[]))? {
-        Ok(groups) => Ok(Setup {
-            capacity: capacity_of(messages),
-            max_inflight: limit_of(packets),
-            groups,
-        }),
-        Err(refusal) => { Err(command(alloc)?.error(ErrorKind::ValueValidation, refusal.text())?) }
-    }
-}
-
-/// The capacity of a queue for so many messages.
-pub(crate) fn capacity_of(messages: u32) -> QueueCapacity
-    requires { (1 ≤ messages) × (messages ≤ 65536) }
-    ensures { result ≡ messages }
-{
-    match QueueCapacity::new(messages) {
-        Some(capacity) => capacity,
-        None => unreachable!(),
-    }
-}
-
-/// The limit of so many unacknowledged messages.
-pub(crate) fn limit_of(packets: u32) -> MaxInflight
-    requires { (1 ≤ packets) × (packets ≤ 256) }
-    ensures { result ≡ packets }
-{
-    match MaxInflight::new(packets as u16) {
-        Some(max_inflight) => max_inflight,
-        None => unreachable!(),
-    }
-}
-
-/// The number of `--capacity`.
-fn messages(options: &ArgMatches) -> u32
-    requires number { (number : ℕ) × HaveCapacity (rows_of (found_of options.now)) number }
-    requires as_written { one_of (codes "capacity") (rows_of (found_of options.now))
-        ≡ first_of (codes "capacity") (rows_of (found_of options.now)) }
-    ensures { HaveCapacity (rows_of (found_of options.now)) result }
-{
-    options.get_one::<u32>("capacity").unwrap_or(1_024)
-}
-
-/// The number of `--max-inflight`.
-fn packets(options: &ArgMatches) -> u32
-    requires number { (number : ℕ) × HaveMaxInflight (rows_of (found_of options.now)) number }
-    requires as_written { one_of (codes "max-inflight") (rows_of (found_of options.now))
-        ≡ first_of (codes "max-inflight") (rows_of (found_of options.now)) }
-    ensures { HaveMaxInflight (rows_of (found_of options.now)) result }
-{
-    options.get_one::<u32>("max-inflight").unwrap_or(256)
+    Command::new(alloc, "serve")
+        .about(
+            "Serves MQTT clients on TCP: prints the port that it listens at, and once standard input has ended what became of the jobs of each group",
+        )
+        .arg(port(alloc))?
+        .arg(address(alloc))?
+        .arg(workers(alloc))?
+        .arg(capacity(alloc))?
+        .arg(max_inflight(alloc))?
+        .arg(group(alloc))
 }

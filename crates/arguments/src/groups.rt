@@ -19,29 +19,45 @@ pub(crate) enum Refusal {
 }
 
 impl Refusal {
-    /// What is said of it.
-    pub(crate) fn text(self) -> &'static str {
+    /// Why, in words.
+    fn reason(self) -> &'static str {
         match self {
             Refusal::NoShare => "a group is NAME:FILTER, where $share/NAME/FILTER is a share",
-            Refusal::Twice => "a group is given twice",
+            Refusal::Twice => "the group is given twice",
             Refusal::Ninth => "there are at most eight groups",
         }
     }
+
+    /// What is said of a pair that is refused: which it is, and why.
+    fn text(self, alloc: Global, pair: &str) -> Result<String, AllocError> {
+        let reason = self.reason();
+        format!(in alloc; "invalid value '{pair}' for '--group <NAME:FILTER>': {reason}")
+    }
+}
+
+/// A pair that is refused.
+#[derive(Drop)]
+pub(crate) struct RefusedPair {
+    /// Why.
+    pub(crate) refusal: Refusal,
+    /// What is said of it.
+    pub(crate) text: String,
 }
 
 /// The groups that are named by the pairs `NAME:FILTER`, in order; or why the first that is refused is.
 pub(crate) fn groups_of(
     alloc: Global,
     pairs: &[&str],
-) -> Result<Result<Routes, Refusal>, AllocError>
+) -> Result<Result<Routes, RefusedPair>, AllocError>
     ensures { IfOk result (λ answer. MatchResult answer
         (λ groups. AddsEach [] (map (λ pair. pair.now) pairs.now) groups)
-        (λ refusal. RefusesOne [] (map (λ pair. pair.now) pairs.now) refusal)) }
+        (λ refused. RefusesOne [] (map (λ pair. pair.now) pairs.now) refused.refusal)) }
 {
     let mut groups = Routes::new(alloc);
     for pair in pairs {
         if let Err(refusal) = add_group(alloc, &mut groups, pair)? {
-            return Ok(Err(refusal));
+            let text = refusal.text(alloc, pair)?;
+            return Ok(Err(RefusedPair { refusal, text }));
         }
     }
     Ok(Ok(groups))

@@ -1,12 +1,12 @@
-//! What holds of the words of each command line.
+//! What holds of the words of the command line.
 ghost use Rattle.std.specs.Prelude.{◌≡◌, List};
 ghost use Rattle.clap.specs.Words.{Text};
 ghost use Rattle.clap.specs.declared.error.kind.ErrorKind.{ErrorKind};
 ghost use Rattle.arguments.specs.CommandLine.{AskFor, SpellNoRequest};
 ghost use Rattle.arguments.specs.declared.command.Request.{Request};
 
-/// **Words ask for one thing**: for one request at most, with one setup (`one`); and where they ask for a request, they do not spell
-/// none (`exclusive`).
+/// **Words ask for one thing**: for one request at most, with one setup, and of `serve` with one address, port and number of workers (`one`); and
+/// where they ask for a request, they do not spell none (`exclusive`).
 pub fn one_request_law()
     ensures one { (words : List Text) (first second : Request)
         → AskFor words first → AskFor words second → first ≡ second }

@@ -9,9 +9,10 @@
 mod command;
 mod groups;
 pub mod laws;
+mod options;
 mod service;
 mod serving;
+mod setup;
 
 pub use command::{Request, arguments};
 pub use service::ServeOptions;
-pub use serving::serve_arguments;

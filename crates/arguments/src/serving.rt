@@ -1,40 +1,25 @@
-//! The words of `serve`.
-ghost use Rattle.std.specs.Prelude.{◌≡◌, ◌≤◌, ◌⊎◌, ℕ, codes, IfOk, IfErr, MatchOption, map};
-ghost use Rattle.std.specs.String.{string_bytes};
-ghost use Rattle.clap.specs.Words.{app_of, found_of, kind_of, rows_of, rule_of};
-ghost use Rattle.arguments.specs.ServeLine.{AskForService, HasNumber, IsServiceBy, SpellNoService};
+//! What a broker on TCP begins with, by the options of `serve`.
+ghost use Rattle.std.specs.Prelude.{◌≡◌, ◌⊎◌, ℕ, codes, IfOk, IfErr, MatchOption};
+ghost use Rattle.clap.specs.Words.{found_of, kind_of, rows_of};
+ghost use Rattle.clap.specs.declared.error.kind.ErrorKind.TheVariants as kinds;
+ghost use Rattle.arguments.specs.Options.{HasNumber};
+ghost use Rattle.arguments.specs.CommandLine.{IsServiceBy};
 ghost use Rattle.arguments.specs.declared.service.ServeOptions.{ServeOptions as AnyService};
-ghost use Rattle.arguments.specs.ServeLine.{address_option, port_option, serve_line, workers_option};
 
-use crate::command::{capacity, capacity_of, group, limit_of, max_inflight};
+use crate::command::wrong;
 use crate::groups::groups_of;
 use crate::service::ServeOptions;
-use clap::error::ErrorKind;
-use clap::{Arg, ArgMatches, Command, Error, value_parser};
+use crate::setup::{capacity_of, limit_of};
+use clap::{ArgMatches, Error};
 use conn_rules::Setup;
-use std::alloc::{AllocError, Global};
+use std::alloc::Global;
 use std::net::Ipv4Addr;
 
-/// What the words after `share_broker` ask for, of which the first is `serve`: `serve --port P [--address IP] [--workers W] [--capacity N]
-/// [--max-inflight N] [--group NAME:FILTER]..`.
-///
-/// # Errors
-///
-/// The text of a fault, or of the help, as clap has them; [`ErrorKind::OutOfMemory`] for lack of memory.
-pub fn serve_arguments(alloc: Global, words: &[String]) -> Result<ServeOptions, Error>
-    ensures ok { IfOk result (AskForService (map string_bytes words.now)) }
-    ensures err { IfErr result (λ error. (kind_of error ≡ ErrorKind.OutOfMemory)
-        ⊎ SpellNoService (map string_bytes words.now) (kind_of error)) }
-{
-    let matches = serve_command(alloc)?.try_get_matches_from(words)?;
-    service_of(alloc, &matches)
-}
-
 /// What a broker begins with, by the options.
-fn service_of(alloc: Global, options: &ArgMatches) -> Result<ServeOptions, Error>
+pub(crate) fn service_of(alloc: Global, options: &ArgMatches) -> Result<ServeOptions, Error>
     ensures ok { IfOk result (IsServiceBy (rows_of (found_of options.now))) }
-    ensures err { IfErr result (λ error. (kind_of error ≡ ErrorKind.OutOfMemory)
-        ⊎ ((kind_of error ≡ ErrorKind.ValueValidation)
+    ensures err { IfErr result (λ error. (kind_of error ≡ kinds.OutOfMemory)
+        ⊎ ((kind_of error ≡ kinds.ValueValidation)
         × ((service : AnyService) → ¬ IsServiceBy (rows_of (found_of options.now)) service))) }
 {
     let Some(address) = options.get_one::<Ipv4Addr>("address") else {
@@ -57,7 +42,7 @@ fn service_of(alloc: Global, options: &ArgMatches) -> Result<ServeOptions, Error
                 groups,
             },
         }),
-        Err(refusal) => Err(wrong(alloc, refusal.text())?),
+        Err(refused) => Err(wrong(alloc, refused.text.as_str())?),
     }
 }
 
@@ -87,66 +72,4 @@ fn number(options: &ArgMatches, id: &str, least: u32, most: u32) -> Option<u32>
         Some(number) if least <= number && number <= most => Some(number),
         _ => None,
     }
-}
-
-/// The command and its options.
-fn serve_command<'a>(alloc: Global) -> Result<Command<'a>, AllocError>
-    ensures { IfOk result (λ command. app_of command ≡ serve_line) }
-{
-    Command::new(alloc, "share_broker serve")
-        .about(
-            "Serves MQTT clients on TCP until standard input ends, and then prints what became of the jobs of each group",
-        )
-        .arg(port(alloc))?
-        .arg(address(alloc))?
-        .arg(workers(alloc))?
-        .arg(capacity(alloc))?
-        .arg(max_inflight(alloc))?
-        .arg(group(alloc))
-}
-
-/// `--port P`.
-fn port<'a>(alloc: Global) -> Arg<'a>
-    ensures { rule_of result ≡ port_option }
-{
-    Arg::new(alloc, "port")
-        .long("port")
-        .value_name("P")
-        .required(true)
-        .value_parser(value_parser!(u32).range(0..=65_535))
-        .help(
-            "The port to listen at; 0 lets the system choose, and the first line printed tells which",
-        )
-}
-
-/// `--address IP`.
-fn address<'a>(alloc: Global) -> Arg<'a>
-    ensures { rule_of result ≡ address_option }
-{
-    Arg::new(alloc, "address")
-        .long("address")
-        .value_name("IP")
-        .default_value("127.0.0.1")
-        .help(
-            "The IPv4 address of this machine to listen at, or 0.0.0.0 for each of them. Nobody is asked for a password",
-        )
-}
-
-/// `--workers W`.
-fn workers<'a>(alloc: Global) -> Arg<'a>
-    ensures { rule_of result ≡ workers_option }
-{
-    Arg::new(alloc, "workers")
-        .long("workers")
-        .value_name("W")
-        .value_parser(value_parser!(u32).range(1..=64))
-        .default_value("8")
-        .help("How many threads serve connections, 1 to 64")
-}
-
-/// An error of the words.
-fn wrong(alloc: Global, text: &str) -> Result<Error, AllocError>
-    ensures { IfOk result (λ error. kind_of error ≡ ErrorKind.ValueValidation) }
-{
-    serve_command(alloc)?.error(ErrorKind::ValueValidation, text)
 }

@@ -27,8 +27,8 @@ IsNoText (Run request) = ⊥
 IsNoText (Show text) = ⊥
 IsNoText (Refuse text) = string_bytes text ≡ codes "error: a word is no UTF-8 text\n"
 
--- What is asked for by words that were had, as texts, or by the want of them: one was no text, or memory was refused, for them or for what
--- is said of them.
+-- What is asked for by words that were read, as texts, or by the error in their place: one was no text, or memory was refused, for them or
+-- for what is said of them.
 abbrev pub Asks : {Words Error : Type 0} → Result Words Error → (Words → List (List ℕ)) → Result Asked RunError → Type 0
 Asks had texts (Err error) = error ≡ Memory
 Asks (Ok words) texts (Ok asked) = IsAskedBy (texts words) asked

@@ -1,8 +1,10 @@
 -- How the program ends: its status, and what then stands in its output and on its error output (profile).
-use Rattle.std.specs.Prelude.{◌≡◌, ◌⊎◌, ℕ, List, Option, Result, Ok, Err, IfSome, string_bytes}
-use Rattle.std.specs.Io.KnownBytes.{Appends, Keeps}
+use Rattle.std.specs.Prelude.{◌≡◌, ◌⊎◌, ℕ, List, Option, Result, Ok, Err, IfOk, IfSome, string_bytes}
+use Rattle.std.specs.Io.KnownBytes.{Appends, IsAtEnd, Keeps}
+use Rattle.conn_rules.specs.declared.setup.Setup.{Setup}
 use Rattle.arguments.specs.declared.command.Request.{Request}
-use Rattle.arguments.specs.declared.command.Request.TheVariants.{Solo, Drive}
+use Rattle.arguments.specs.declared.command.Request.TheVariants.{Solo, Drive, Serve}
+use Rattle.arguments.specs.declared.service.ServeOptions.{ServeOptions}
 use Rattle.text_io.specs.declared.error.RunError.{RunError}
 use Rattle.text_io.specs.declared.error.RunError.TheVariants.{ReadFailed, TooManyReads, WriteFailed, Network, Memory, Unfinished, Line}
 use Rattle.text_io.specs.Status.{status_of, error_line}
@@ -11,9 +13,11 @@ use Rattle.drive.specs.Scripts.{script_of}
 use Rattle.drive.specs.Transcripts.{IsDriveOutput, Writes, BeginsTo}
 use Rattle.solo_output.specs.Streams.{stream_of}
 use Rattle.solo_output.specs.Output as solo
+use Rattle.tcp_server.specs.Serving.{IsServedAt}
 use Rattle.program.specs.declared.ending.Exit.{Exit}
 use Rattle.program.specs.declared.asking.Asked.{Asked}
 use Rattle.program.specs.declared.asking.Asked.TheVariants.{Run, Show, Refuse}
+use Rattle.program.specs.Asking.{Asks}
 
 -- What is known of the bytes that are left to read, of those in the output, and of those on the error output.
 pub record Streams : Type 0 where
@@ -36,32 +40,41 @@ abbrev pub Tells : Result (Unit {0}) RunError → Result (Unit {0}) RunError →
 Tells (Ok done) told old new = (told ≡ Ok tt) × Keeps old new
 Tells (Err error) told old new = IsSaid (error_line error) told old new
 
--- of the lines of an input the first that a command does not take has this number, from 1
-abbrev pub NamesBadLine : Request → List ℕ → ℕ → Type 0
-NamesBadLine (Solo setup) input line = stream_of input ≡ Err line
-NamesBadLine (Drive setup) input line = script_of input ≡ Err line
+-- What a command that runs on its input alone wrote: its output where it came to its end, and a beginning of it where the output failed; at
+-- every other error nothing, and a line that is named is the first that the command does not take.
+abbrev pub Wrote : (List ℕ → Type 0) → (ℕ → Type 0) → Result (Unit {0}) RunError → Option (List ℕ) → Option (List ℕ) → Type 0
+Wrote IsOutput IsBadLine (Ok done) old new = Writes IsOutput old new
+Wrote IsOutput IsBadLine (Err ReadFailed) old new = Keeps old new
+Wrote IsOutput IsBadLine (Err TooManyReads) old new = Keeps old new
+Wrote IsOutput IsBadLine (Err WriteFailed) old new = BeginsTo IsOutput old new
+Wrote IsOutput IsBadLine (Err Network) old new = Keeps old new
+Wrote IsOutput IsBadLine (Err Memory) old new = Keeps old new
+Wrote IsOutput IsBadLine (Err Unfinished) old new = Keeps old new
+Wrote IsOutput IsBadLine (Err (Line number)) old new = IsBadLine number × Keeps old new
 
--- the output of a command for an input
-abbrev pub IsOutputFor : Request → List ℕ → List ℕ → Type 0
-IsOutputFor (Solo setup) input output = solo.IsOutputFor setup input output
-IsOutputFor (Drive setup) input output = IsDriveOutput setup input output
+-- `solo` and `drive` wrote what they define for the input
+abbrev pub WroteSolo : Setup → List ℕ → Result (Unit {0}) RunError → Option (List ℕ) → Option (List ℕ) → Type 0
+WroteSolo setup input = Wrote (solo.IsOutputFor setup input) (λ line. stream_of input ≡ Err line)
 
--- What a command wrote for an input: its output where it came to its end, and a beginning of it where the output failed; at every other error
--- nothing, and a line that is named is the first that the command does not take.
-abbrev pub Wrote : Request → List ℕ → Result (Unit {0}) RunError → Option (List ℕ) → Option (List ℕ) → Type 0
-Wrote request input (Ok done) old new = Writes (IsOutputFor request input) old new
-Wrote request input (Err ReadFailed) old new = Keeps old new
-Wrote request input (Err TooManyReads) old new = Keeps old new
-Wrote request input (Err WriteFailed) old new = BeginsTo (IsOutputFor request input) old new
-Wrote request input (Err Network) old new = Keeps old new
-Wrote request input (Err Memory) old new = Keeps old new
-Wrote request input (Err Unfinished) old new = Keeps old new
-Wrote request input (Err (Line number)) old new = NamesBadLine request input number × Keeps old new
+abbrev pub WroteDrive : Setup → List ℕ → Result (Unit {0}) RunError → Option (List ℕ) → Option (List ℕ) → Type 0
+WroteDrive setup input = Wrote (IsDriveOutput setup input) (λ line. script_of input ≡ Err line)
 
--- A command came to its end, or to an error.
+-- A broker was served at the port, with groups of the capacity, with the workers, the limit and the shares that were asked for: what it
+-- wrote by how it ended is in the output. It ended with no error only where the input, of which this is left, had ended.
+pub record Served (service : ServeOptions) (ended : Result (Unit {0}) RunError) (left old new : Option (List ℕ)) : Type 0 where
+  pub written : IsServedAt service.port service.setup.capacity service.workers service.setup.max_inflight service.setup.groups ended old new
+  pub read : IfOk ended (λ done. IsAtEnd left)
+
+-- what a command did, by how it ended: with this input, of which this is left, and the output before and after
+abbrev pub Did : Request → Result (Unit {0}) RunError → Option (List ℕ) → Option (List ℕ) → Option (List ℕ) → Option (List ℕ) → Type 0
+Did (Solo setup) ended input left old new = IfSome input (λ given. WroteSolo setup given ended old new)
+Did (Drive setup) ended input left old new = IfSome input (λ given. WroteDrive setup given ended old new)
+Did (Serve service) ended input left old new = Served service ended left old new
+
+-- A command came to its end, or to an error, which is told.
 pub record RunEnds (request : Request) (old new : Streams) (exit : Exit) : Type 0 where
   pub ended : Result (Unit {0}) RunError
-  pub wrote : IfSome old.input (λ input. Wrote request input ended old.output new.output)
+  pub did : Did request ended old.input new.input old.output new.output
   pub told : Tells ended exit.told old.errors new.errors
   pub ends_with : exit.status ≡ status_at ended
 
@@ -91,3 +104,7 @@ Ends (Ok (Run request)) old new exit = RunEnds request old new exit
 Ends (Ok (Show text)) old new exit = ShowEnds (string_bytes text) old new exit
 Ends (Ok (Refuse text)) old new exit = NothingBut (string_bytes text) exit.told old new × (exit.status ≡ 2)
 Ends (Err error) old new exit = NothingBut (error_line error) exit.told old new × (exit.status ≡ status_of error)
+
+-- The program ends as what its words ask for ends: of words that were read, as texts, or of the error in their place.
+abbrev pub EndsAsAsked : {Words Error : Type 0} → Result Words Error → (Words → List (List ℕ)) → Streams → Streams → Exit → Type 0
+EndsAsAsked words texts old new exit = (asked : Result Asked RunError) × Asks words texts asked × Ends asked old new exit

@@ -45,7 +45,7 @@ pub fn asked_by(alloc: Global, words: io::Result<Vec<String>>) -> Result<Asked, 
 }
 
 /// What is done where clap found no request: the help and the version are shown, and every other words are refused.
-pub(crate) fn answer(alloc: Global, error: &Error) -> Result<Asked, RunError>
+fn answer(alloc: Global, error: &Error) -> Result<Asked, RunError>
     ensures ok { IfOk result (IsAnswerTo (kind_of error.now)) }
     ensures err { IfErr result (λ error. error ≡ Memory) }
 {

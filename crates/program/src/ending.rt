@@ -1,17 +1,21 @@
 //! The words, what they ask for, and the status.
-ghost use Rattle.std.specs.Prelude.{◌≡◌, map, string_bytes, Result, IfSome};
-ghost use Rattle.text_io.specs.declared.error.RunError.{RunError as Stop};
-ghost use Rattle.program.specs.declared.asking.Asked.{Asked as AskedFor};
-ghost use Rattle.program.specs.Asking.{Asks};
-ghost use Rattle.program.specs.Ending.{Ends, Streams, Tells, Wrote, status_at};
+ghost use Rattle.std.specs.Prelude.{◌≡◌, map, string_bytes, IfOk};
+ghost use Rattle.std.specs.Io.KnownBytes.{IsAtEnd};
+ghost use Rattle.tcp_server.specs.Serving.{IsServedAt};
+ghost use Rattle.program.specs.Ending.{Did, Ends, EndsAsAsked, Streams, Tells, status_at};
 
 use crate::asking::{Asked, asked_by};
-use arguments::Request;
+use arguments::{Request, ServeOptions};
 use drive::drive_lines;
 use solo_output::solo;
 use std::alloc::Global;
 use std::io;
 use std::io::{Read, Write};
+use std::net::Net;
+use std::rt::Clock;
+use std::sync::Wait;
+use std::thread::Threads;
+use tcp_server::serve_at;
 use text_io::{RunError, tell, write_all};
 
 /// The status that the program ends with where its words are wrong.
@@ -27,21 +31,23 @@ pub struct Exit {
     pub told: Result<(), RunError>,
 }
 
-/// The program: does what its words ask for, its own name in front, and says how it ends.
+/// The program: does what its words ask for, its own name in front, and says how it ends. `serve` needs threads, sockets and a clock, and returns
+/// only once the reader has ended, or at an error, and all connections have ended.
 ///
 /// | Status | |
 /// |---|---|
-/// | 0 | all was written, or the help or the version was |
+/// | 0 | all was written, and of `serve` the reader has ended; or the help or the version was |
 /// | 2 | the words are wrong, which is said on the error output; nothing was read |
-/// | 3 | the reader or the output failed, or 2^20 reads did not reach the input's end |
-/// | 4 | memory was refused |
+/// | 3 | the reader, the output or the network failed, or 2^20 reads did not reach the input's end |
+/// | 4 | memory was refused, or what became of the messages of a group is not known |
 /// | 5 | a line of the input is none that the command takes; nothing was run |
 ///
-/// At 3, 4 and 5 the error output has `device`, `memory` or `input line N`, on a line. Where it fails, or memory for that line is
+/// At 3, 4 and 5 the error output has a line that says so: `device`, `memory`, `unfinished` or `input line N`. Where it fails, or memory for that line is
 /// refused, it has a beginning of that, and [`Exit::told`] says so.
 ///
 /// The words are an error where one of them is no UTF-8 text, which ends as wrong words do, or where memory was refused for them.
-pub fn run<R: Read, W: Write, E: Write>(
+pub fn run<H: Threads + Wait + Net + Clock + Sync, R: Read + Send, W: Write, E: Write>(
+    rt: &H,
     alloc: Global,
     words: io::Result<Vec<String>>,
     reader: &mut R,
@@ -49,15 +55,16 @@ pub fn run<R: Read, W: Write, E: Write>(
     errors: &mut E,
 ) -> Exit
     // It ends as what its words ask for ends.
-    ensures ends { (asked_for : Result AskedFor Stop) × Asks words (λ given. map string_bytes given.items) asked_for × Ends asked_for
+    ensures ends { EndsAsAsked words (λ given. map string_bytes given.items)
         (record { input = R.remaining reader.old; output = W.contents output.old; errors = E.contents errors.old })
         (record { input = R.remaining reader.new; output = W.contents output.new; errors = E.contents errors.new }) result }
 {
-    perform(alloc, asked_by(alloc, words), reader, output, errors)
+    perform(rt, alloc, asked_by(alloc, words), reader, output, errors)
 }
 
 /// Does what was asked for, and says how the program ends, as [`run`].
-pub fn perform<R: Read, W: Write, E: Write>(
+pub fn perform<H: Threads + Wait + Net + Clock + Sync, R: Read + Send, W: Write, E: Write>(
+    rt: &H,
     alloc: Global,
     asked: Result<Asked, RunError>,
     reader: &mut R,
@@ -70,7 +77,7 @@ pub fn perform<R: Read, W: Write, E: Write>(
 {
     match asked {
         Ok(Asked::Run(request)) => {
-            let ended = command(alloc, request, reader, output);
+            let ended = command(rt, alloc, request, reader, output);
             conclude(alloc, ended, errors)
         }
         Ok(Asked::Show(text)) => {
@@ -86,22 +93,55 @@ pub fn perform<R: Read, W: Write, E: Write>(
 }
 
 /// Runs a command.
-fn command<R: Read, W: Write>(
+fn command<H: Threads + Wait + Net + Clock + Sync, R: Read + Send, W: Write>(
+    rt: &H,
     alloc: Global,
     request: Request,
     reader: &mut R,
     output: &mut W,
 ) -> Result<(), RunError>
-    ensures { IfSome (R.remaining reader.old) (λ input. Wrote request input result (W.contents output.old) (W.contents output.new)) }
+    ensures { Did request result (R.remaining reader.old) (R.remaining reader.new) (W.contents output.old) (W.contents output.new) }
 {
     match request {
         Request::Solo(setup) => solo(alloc, setup, reader, output),
         Request::Drive(setup) => drive_lines(alloc, setup, reader, output),
+        Request::Serve(service) => serve(rt, alloc, service, reader, output),
     }
 }
 
+/// Serves as was asked for.
+fn serve<H: Threads + Wait + Net + Clock + Sync, R: Read + Send, W: Write>(
+    rt: &H,
+    alloc: Global,
+    service: ServeOptions,
+    reader: &mut R,
+    output: &mut W,
+) -> Result<(), RunError>
+    ensures written { IsServedAt service.port service.setup.capacity service.workers service.setup.max_inflight service.setup.groups result (W.contents output.old) (W.contents output.new) }
+    ensures read { IfOk result (λ _. IsAtEnd (R.remaining reader.new)) }
+{
+    let ServeOptions {
+        address,
+        port,
+        workers,
+        setup,
+    } = service;
+    serve_at(
+        rt,
+        alloc,
+        setup.capacity.get() as usize,
+        setup.groups,
+        workers,
+        setup.max_inflight,
+        address,
+        port,
+        reader,
+        output,
+    )
+}
+
 /// How the program ends where what it did came to an end so: an error is told.
-pub(crate) fn conclude<E: Write>(alloc: Global, ended: Result<(), RunError>, errors: &mut E) -> Exit
+fn conclude<E: Write>(alloc: Global, ended: Result<(), RunError>, errors: &mut E) -> Exit
     ensures status { result.status ≡ status_at ended }
     ensures told { Tells ended result.told (E.contents errors.old) (E.contents errors.new) }
 {

@@ -6,7 +6,11 @@ use program::run;
 use std::alloc::{AllocError, Global};
 use std::io;
 use std::io::{ErrorKind, Read};
+use std::net::Net;
+use std::rt::Clock;
+use std::sync::Wait;
 use std::test::Fail;
+use std::thread::Threads;
 
 /// A CONNECT.
 const CONNECTED: &[u8] = b"100F00044D5154540502003C0000027731\n";
@@ -23,11 +27,16 @@ struct Ended {
 }
 
 /// The program, run with these words on this input.
-fn ran<R: Read>(alloc: Global, line: &str, reader: &mut R) -> Result<Ended, AllocError> {
+fn ran<H: Threads + Wait + Net + Clock + Sync, R: Read + Send>(
+    rt: &H,
+    alloc: Global,
+    line: &str,
+    reader: &mut R,
+) -> Result<Ended, AllocError> {
     let words = words_of(alloc, line)?;
     let mut output = Vec::new(alloc);
     let mut errors = Vec::new(alloc);
-    let exit = run(alloc, Ok(words), reader, &mut output, &mut errors);
+    let exit = run(rt, alloc, Ok(words), reader, &mut output, &mut errors);
     Ok(Ended {
         status: exit.status,
         output,
@@ -95,7 +104,7 @@ $share/g/job accepted 2 acknowledged 0 refused 0 held 0 queued 2 returned 0 disc
 #[test]
 fn commands_that_end(rt: HostRuntime) -> Result<(), Fail> {
     for (line, input, output) in COMMANDS.iter() {
-        let ended = ran(rt.alloc(), line, &mut input.as_bytes())?;
+        let ended = ran(&rt, rt.alloc(), line, &mut input.as_bytes())?;
         assert_same_at(&rt, &ended.status, &0, line);
         assert_eq!(rt; ended.output.as_slice(), output.as_bytes(), "{line}");
         assert_same_at(&rt, &ended.errors.len(), &0, line);
@@ -105,11 +114,24 @@ fn commands_that_end(rt: HostRuntime) -> Result<(), Fail> {
 
 #[test]
 fn texts_are_shown(rt: HostRuntime) -> Result<(), Fail> {
-    let help = ran(rt.alloc(), "share_broker --help", &mut Broken)?;
-    assert_same(&rt, &help.status, &0);
-    assert!(rt; has(&help.output, "Usage: share_broker <COMMAND>"));
-    assert_same(&rt, &help.errors.len(), &0);
-    let version = ran(rt.alloc(), "share_broker --version", &mut Broken)?;
+    let rows = [
+        ("share_broker --help", "Usage: share_broker <COMMAND>"),
+        ("share_broker --help", "\n  solo "),
+        ("share_broker -h", "\n  drive "),
+        ("share_broker -h", "\n  serve "),
+        ("share_broker serve --help", "--port <P>"),
+        ("share_broker help serve", "[default: 127.0.0.1]"),
+        ("share_broker serve -h", "1 to 64 [default: 8]"),
+        ("share_broker drive --help", "1 to 65536 [default: 1024]"),
+        ("share_broker solo --help", "1 to 256 [default: 256]"),
+    ];
+    for (line, text) in rows.iter() {
+        let help = ran(&rt, rt.alloc(), line, &mut Broken)?;
+        assert_same_at(&rt, &help.status, &0, line);
+        assert_same_at(&rt, &has(&help.output, text), &true, line);
+        assert_same_at(&rt, &help.errors.len(), &0, line);
+    }
+    let version = ran(&rt, rt.alloc(), "share_broker --version", &mut Broken)?;
     assert_same(&rt, &version.status, &0);
     assert_items(
         &rt,
@@ -123,19 +145,42 @@ fn texts_are_shown(rt: HostRuntime) -> Result<(), Fail> {
 #[test]
 fn wrong_words(rt: HostRuntime) -> Result<(), Fail> {
     let rows = [
-        ("share_broker serve", "unrecognized subcommand 'serve'"),
-        ("share_broker drive --group job", "a group is NAME:FILTER"),
+        ("share_broker serve", "--port <P>"),
+        ("share_broker server", "unrecognized subcommand 'server'"),
+        ("share_broker server", "'serve'"),
+        (
+            "share_broker drive --group job",
+            "'job' for '--group <NAME:FILTER>': a group is NAME:FILTER",
+        ),
+        (
+            "share_broker serve --port 0 --group a:1 --group g:job --group g:job",
+            "'g:job' for '--group <NAME:FILTER>': the group is given twice",
+        ),
         ("share_broker solo --capacity 0", "invalid value '0'"),
     ];
     for (line, text) in rows.iter() {
         let mut reader = CONNECTED;
-        let ended = ran(rt.alloc(), line, &mut reader)?;
-        assert_same(&rt, &ended.status, &2);
-        assert_same(&rt, &reader.len(), &CONNECTED.len());
-        assert_same(&rt, &ended.output.len(), &0);
-        assert!(rt; ended.errors.starts_with(b"error: "));
-        assert!(rt; has(&ended.errors, text));
+        let ended = ran(&rt, rt.alloc(), line, &mut reader)?;
+        assert_same_at(&rt, &ended.status, &2, line);
+        assert_same_at(&rt, &reader.len(), &CONNECTED.len(), line);
+        assert_same_at(&rt, &ended.output.len(), &0, line);
+        assert_same_at(&rt, &ended.errors.starts_with(b"error: "), &true, line);
+        assert_same_at(&rt, &has(&ended.errors, text), &true, line);
     }
+    Ok(())
+}
+
+/// A broker whose input has ended closes at once, and has written the port that it listened at and the report of its group.
+#[test]
+fn serving_ends(rt: HostRuntime) -> Result<(), Fail> {
+    let line = "share_broker serve --port 0 --workers 1 --group g:job";
+    let ended = ran(&rt, rt.alloc(), line, &mut &b""[..])?;
+    assert_same(&rt, &ended.status, &0);
+    assert!(rt; ended.output.starts_with(b"listening "));
+    let report =
+        "\n$share/g/job accepted 0 acknowledged 0 refused 0 held 0 queued 0 returned 0 discarded 0\n";
+    assert!(rt; has(&ended.output, report));
+    assert_same(&rt, &ended.errors.len(), &0);
     Ok(())
 }
 
@@ -154,7 +199,14 @@ fn no_words(rt: HostRuntime) -> Result<(), Fail> {
         let mut output = Vec::new(rt.alloc());
         let mut errors = Vec::new(rt.alloc());
         let words = Err(io::Error::from(*kind));
-        let exit = run(rt.alloc(), words, &mut Broken, &mut output, &mut errors);
+        let exit = run(
+            &rt,
+            rt.alloc(),
+            words,
+            &mut Broken,
+            &mut output,
+            &mut errors,
+        );
         assert_same(&rt, &exit.status, status);
         assert!(rt; exit.told.is_ok());
         assert_same(&rt, &output.len(), &0);
@@ -165,7 +217,7 @@ fn no_words(rt: HostRuntime) -> Result<(), Fail> {
 
 #[test]
 fn reader_fails(rt: HostRuntime) -> Result<(), Fail> {
-    let ended = ran(rt.alloc(), "share_broker solo", &mut Broken)?;
+    let ended = ran(&rt, rt.alloc(), "share_broker solo", &mut Broken)?;
     assert_same(&rt, &ended.status, &3);
     assert_same(&rt, &ended.output.len(), &0);
     assert_items(&rt, ended.errors.as_slice(), "device\n".as_bytes());
@@ -183,6 +235,7 @@ fn output_fails(rt: HostRuntime) -> Result<(), Fail> {
         let mut errors = Vec::new(rt.alloc());
         let words = words_of(rt.alloc(), "share_broker solo")?;
         let exit = run(
+            &rt,
             rt.alloc(),
             Ok(words),
             &mut &CONNECTED[..],
@@ -199,7 +252,14 @@ fn output_fails(rt: HostRuntime) -> Result<(), Fail> {
     };
     let mut errors = Vec::new(rt.alloc());
     let words = words_of(rt.alloc(), "share_broker --version")?;
-    let exit = run(rt.alloc(), Ok(words), &mut Broken, &mut output, &mut errors);
+    let exit = run(
+        &rt,
+        rt.alloc(),
+        Ok(words),
+        &mut Broken,
+        &mut output,
+        &mut errors,
+    );
     assert_same(&rt, &exit.status, &3);
     assert_items(&rt, output.taken.as_slice(), "share_broker".as_bytes());
     assert_items(&rt, errors.as_slice(), "device\n".as_bytes());
@@ -221,6 +281,7 @@ fn error_output_fails(rt: HostRuntime) -> Result<(), Fail> {
         };
         let words = words_of(rt.alloc(), line)?;
         let exit = run(
+            &rt,
             rt.alloc(),
             Ok(words),
             &mut &b"0"[..],
@@ -238,12 +299,12 @@ fn error_output_fails(rt: HostRuntime) -> Result<(), Fail> {
 #[test]
 fn bad_line(rt: HostRuntime) -> Result<(), Fail> {
     let input: &[u8] = b"100F00044D5154540502003C0000027731\n\n0x\n";
-    let ended = ran(rt.alloc(), "share_broker solo", &mut &input[..])?;
+    let ended = ran(&rt, rt.alloc(), "share_broker solo", &mut &input[..])?;
     assert_same(&rt, &ended.status, &5);
     assert_same(&rt, &ended.output.len(), &0);
     assert_items(&rt, ended.errors.as_slice(), "input line 3\n".as_bytes());
     let events: &[u8] = b"0 open 0\n0 open 64\n";
-    let ended = ran(rt.alloc(), "share_broker drive", &mut &events[..])?;
+    let ended = ran(&rt, rt.alloc(), "share_broker drive", &mut &events[..])?;
     assert_same(&rt, &ended.status, &5);
     assert_same(&rt, &ended.output.len(), &0);
     assert_items(&rt, ended.errors.as_slice(), "input line 2\n".as_bytes());

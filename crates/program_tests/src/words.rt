@@ -14,19 +14,31 @@ pub(crate) fn words_of(alloc: Global, line: &str) -> Result<Vec<String>, AllocEr
     Ok(words)
 }
 
-/// What a line asks for: the command, its capacity, its limit of unacknowledged messages and its shares; or the status of its fault.
-fn asked(alloc: Global, line: &str) -> Result<String, AllocError> {
+/// What a line asks for: the command, and of `serve` the address, the port and the workers; the capacity, the limit of unacknowledged messages and the
+/// shares; or the status of its fault.
+pub(crate) fn asked(alloc: Global, line: &str) -> Result<String, AllocError> {
     let words = words_of(alloc, line)?;
     match arguments(alloc, &words) {
         Ok(Request::Solo(setup)) => told(alloc, "solo", &setup),
         Ok(Request::Drive(setup)) => told(alloc, "drive", &setup),
+        Ok(Request::Serve(service)) => {
+            let command = format!(in alloc;
+                "serve {}:{} {}",
+                service.address, service.port, service.workers
+            )?;
+            told(alloc, command.as_str(), &service.setup)
+        }
         Err(error) => format!(in alloc; "{}", error.exit_code()),
     }
 }
 
 /// A command, and what its server begins with: the shares in the order of their slots.
-pub(crate) fn told(alloc: Global, command: &str, setup: &Setup) -> Result<String, AllocError> {
-    let mut text = format!(in alloc; "{command} {} {}", setup.capacity, setup.max_inflight.get())?;
+fn told(alloc: Global, command: &str, setup: &Setup) -> Result<String, AllocError> {
+    let mut text = format!(in alloc;
+        "{command} {} {}",
+        setup.capacity.get(),
+        setup.max_inflight.get()
+    )?;
     for share in setup.groups.shares() {
         text.push(' ')?;
         text.push_str(std::str::from_utf8(share.text()).unwrap_or("no text"))?;
@@ -71,8 +83,9 @@ fn what_words_ask_for(rt: HostRuntime) -> Result<(), Fail> {
             "2",
         ),
         ("share_broker", "2"),
-        ("share_broker serve", "2"),
+        ("share_broker job", "2"),
         ("share_broker solo drive", "2"),
+        ("share_broker solo --port 1", "2"),
         ("share_broker solo --capacity 0", "2"),
         ("share_broker solo --group job", "2"),
         ("share_broker drive --capacity 0", "2"),

@@ -1,7 +1,7 @@
 //! A dispatcher for MQTT 5.0 shared subscriptions: the program `share_broker`.
 #![tactic(auto)]
 
-use program::run_with;
+use program::run;
 use std::process::ExitCode;
 use std::{env, io};
 
@@ -9,7 +9,7 @@ fn main(rt: HostRuntime) -> ExitCode {
     let words = words(&rt);
     let mut output = io::writer(&rt);
     let errors = rt.stderr();
-    let exit = run_with(
+    let exit = run(
         &rt,
         rt.alloc(),
         words,

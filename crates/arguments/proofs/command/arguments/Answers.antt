@@ -2,16 +2,21 @@ use Rattle.std.proofs.Common.{◌≡◌, ◌∙◌, Some, ap, codes, inl, inr, m
 use Rattle.std.specs.String.{string_bytes}
 use Rattle.clap.specs.Words.{Text, found_of, rows_of}
 use Rattle.clap.proofs.TakesLemmas.{passed_up}
-use Rattle.arguments.proofs.Taken.{command_facts, read_as, some_command}
+use Rattle.arguments.proofs.Numbers.{HasNumbers}
+use Rattle.arguments.proofs.Taken.{command_facts, fault_found, read_as, some_command}
 use Rattle.arguments.proofs.command.arguments.Goals as goal
 
-pub setup-requires : goal.setup-requires
-setup-requires c =
+pub setup_of-requires : goal.setup_of-requires
+setup_of-requires c =
     let words = map string_bytes c.args.words.now in
     let rows = rows_of (found_of c.in-Some.options.now) in
     let parsed = c.in_ok-matches.ensures in
     let read = read_as c.in_ok-command.field-0 words c.in_ok-matches.matches c.in-Some.name.now rows c.in_ok-command.ensures parsed.kinds parsed.matches c.in-Some.ensures.name c.in-Some.ensures.rows in
-    let numbers = (command_facts words c.in-Some.name.now rows read).1 in
+    let other : c.in-Some.name.now ≡ codes "serve" → ⊥ = search rules in
+    let numbers : HasNumbers rows = elim (command_facts words c.in-Some.name.now rows read) [
+      | inl facts ↦ facts.1
+      | inr is ↦ absurd (other is)
+    ] in
     record { capacity = numbers.0.0; as_written = numbers.0.1; max_inflight = numbers.1.0; max_inflight_as_written = numbers.1.1 }
 
 pub returns-in_default-clause-err : goal.returns-in_default-clause-err
@@ -19,6 +24,33 @@ returns-in_default-clause-err c =
     let words = map string_bytes c.args.words.now in
     let parsed = c.in_ok-matches.ensures in
     absurd (some_command c.in_ok-command.field-0 words c.in_ok-matches.matches c.in_ok-command.ensures parsed.kinds parsed.matches c.in_default.ensures.rows)
+
+pub returns-in_err-matches-clause-err : goal.returns-in_err-matches-clause-err
+returns-in_err-matches-clause-err c =
+    passed_up c.from_residual-in_err-matches.result c.in_err-matches.field-0.0 _ c.from_residual-in_err-matches.ensures.1
+    (fault_found c.in_ok-command.field-0 (map string_bytes c.args.words.now) c.in_err-matches.field-0.0 c.in_ok-command.ensures c.in_err-matches.ensures.kinds)
+
+pub returns-in_err-service-clause-err : goal.returns-in_err-service-clause-err
+returns-in_err-service-clause-err c =
+    let words = map string_bytes c.args.words.now in
+    let rows = rows_of (found_of c.in-Some.options.now) in
+    let parsed = c.in_ok-matches.ensures in
+    let read = read_as c.in_ok-command.field-0 words c.in_ok-matches.matches c.in-Some.name.now rows c.in_ok-command.ensures parsed.kinds parsed.matches c.in-Some.ensures.name c.in-Some.ensures.rows in
+    let serve : c.in-Some.name.now ≡ codes "serve" = search rules in
+    passed_up c.from_residual-in_err-service.result c.in_err-service.field-0.0 _ c.from_residual-in_err-service.ensures.1
+    (elim c.in_err-service.ensures.err [
+      | inl memory ↦ inl memory
+      | inr refused ↦ inr (inr (refused.0, inr (rows, (read.0, read.1 ∙ ap (λ (name : Text). Some (name, rows)) serve), refused.1)))
+    ])
+
+pub returns-then-eq-clause-ok : goal.returns-then-eq-clause-ok
+returns-then-eq-clause-ok c =
+    let words = map string_bytes c.args.words.now in
+    let rows = rows_of (found_of c.in-Some.options.now) in
+    let parsed = c.in_ok-matches.ensures in
+    let read = read_as c.in_ok-command.field-0 words c.in_ok-matches.matches c.in-Some.name.now rows c.in_ok-command.ensures parsed.kinds parsed.matches c.in-Some.ensures.name c.in-Some.ensures.rows in
+    let serve : c.in-Some.name.now ≡ codes "serve" = search rules in
+    (rows, (read.0, read.1 ∙ ap (λ (name : Text). Some (name, rows)) serve), c.in_ok-service.ensures.ok)
 
 pub returns-in_err-setup-clause-err : goal.returns-in_err-setup-clause-err
 returns-in_err-setup-clause-err c =
@@ -29,11 +61,11 @@ returns-in_err-setup-clause-err c =
     passed_up c.from_residual-in_err-setup.result c.in_err-setup.field-0.0 _ c.from_residual-in_err-setup.ensures.1
     (elim c.in_err-setup.ensures.err [
       | inl memory ↦ inl memory
-      | inr refused ↦ inr (inr (refused.0, (c.in-Some.name.now, rows, refused.1.0, read, refused.1.1)))
+      | inr refused ↦ inr (inr (refused.0, inl (c.in-Some.name.now, rows, refused.1.0, read, refused.1.1)))
     ])
 
-pub returns-then-eq-clause-ok : goal.returns-then-eq-clause-ok
-returns-then-eq-clause-ok c =
+pub returns-then-eq-2-clause-ok : goal.returns-then-eq-2-clause-ok
+returns-then-eq-2-clause-ok c =
     let words = map string_bytes c.args.words.now in
     let rows = rows_of (found_of c.in-Some.options.now) in
     let parsed = c.in_ok-matches.ensures in
@@ -47,9 +79,13 @@ returns-clause-ok c =
     let rows = rows_of (found_of c.in-Some.options.now) in
     let parsed = c.in_ok-matches.ensures in
     let read = read_as c.in_ok-command.field-0 words c.in_ok-matches.matches c.in-Some.name.now rows c.in_ok-command.ensures parsed.kinds parsed.matches c.in-Some.ensures.name c.in-Some.ensures.rows in
-    let other : c.in-Some.name.now ≡ codes "drive" → ⊥ = search rules in
-    let solo : c.in-Some.name.now ≡ codes "solo" = elim (command_facts words c.in-Some.name.now rows read).0 [
-      | inl is ↦ is
-      | inr is ↦ absurd (other is)
+    let no_serve : c.in-Some.name.now ≡ codes "serve" → ⊥ = search rules in
+    let no_drive : c.in-Some.name.now ≡ codes "drive" → ⊥ = search rules in
+    let solo : c.in-Some.name.now ≡ codes "solo" = elim (command_facts words c.in-Some.name.now rows read) [
+      | inl facts ↦ elim facts.0 [
+        | inl is ↦ is
+        | inr is ↦ absurd (no_drive is)
+      ]
+      | inr is ↦ absurd (no_serve is)
     ] in
     (rows, (read.0, read.1 ∙ ap (λ (name : Text). Some (name, rows)) solo), c.in_ok-setup.ensures.ok)

@@ -3,7 +3,7 @@ use Rattle.std.proofs.Common.{◌∙◌, sym, arith}
 use Rattle.std.specs.Str.Parse.{ExplainsUnsignedError, HasUnsignedDigitsIfOk, ParsesUnsigned}
 use Rattle.clap.specs.Words.{found_of, one_text}
 use Rattle.arguments.proofs.Read.{one_is}
-use Rattle.arguments.proofs.ServeLine.{number_spelled, one_number, same_text, spelled_read}
+use Rattle.arguments.proofs.Values.{number_spelled, spelled_once, same_text, spelled_read}
 use Rattle.arguments.proofs.serving.number.Goals as goal
 
 pub returns-in-Some : goal.returns-in-Some
@@ -24,7 +24,7 @@ returns-in_default c = λ number has.
     let found = found_of c.args.options.now in
     let read = number_spelled (λ bs r. ParsesUnsigned 32 10 bs r × ExplainsUnsignedError 10 bs r × HasUnsignedDigitsIfOk bs r)
     (one_text found c.args.id.now) c.in-Some.number c.in-Some.ensures.none c.in-Some.ensures.value (λ u r g. g.0) in
-    let same = one_number _ _ number c.in-Some.number (same_text _ _ _ (sym (one_is found c.args.id.now) ∙ has.value) read.1) has.spelled read.2 in
+    let same = spelled_once _ _ number c.in-Some.number (same_text _ _ _ (sym (one_is found c.args.id.now) ∙ has.value) read.1) has.spelled read.2 in
     omega (arith, same, has.to, c.if-number-most.false)
 
 pub returns-in_default-2 : goal.returns-in_default-2
@@ -32,7 +32,7 @@ returns-in_default-2 c = λ number has.
     let found = found_of c.args.options.now in
     let read = number_spelled (λ bs r. ParsesUnsigned 32 10 bs r × ExplainsUnsignedError 10 bs r × HasUnsignedDigitsIfOk bs r)
     (one_text found c.args.id.now) c.in-Some.number c.in-Some.ensures.none c.in-Some.ensures.value (λ u r g. g.0) in
-    let same = one_number _ _ number c.in-Some.number (same_text _ _ _ (sym (one_is found c.args.id.now) ∙ has.value) read.1) has.spelled read.2 in
+    let same = spelled_once _ _ number c.in-Some.number (same_text _ _ _ (sym (one_is found c.args.id.now) ∙ has.value) read.1) has.spelled read.2 in
     omega (arith, same, has.from, c.if-least-number.false)
 
 pub returns-in_default-3 : goal.returns-in_default-3

@@ -1,14 +1,13 @@
 -- What the options tell is a service, and where they tell none there is none.
-use Rattle.std.proofs.Common.{◌≡◌, ◌∙◌, List, ℕ, [], codes, inr, map, refl, subst, sym}
+use Rattle.std.proofs.Common.{◌≡◌, ◌∙◌, [], codes, inr, map, refl, subst, sym}
 use Rattle.std.specs.Borrow.{Bor}
 use Rattle.std.specs.Net.Grammar.{IsIpv4Text, Parses}
 use Rattle.clap.specs.Words.{Text, all_of, found_of, one_text, rows_of}
-use Rattle.arguments.specs.CommandLine.{pairs_in}
-use Rattle.arguments.specs.ServeLine.{HasNumber}
+use Rattle.arguments.specs.Options.{HasNumber, pairs_in}
 use Rattle.arguments.specs.Groups.{AddsEach, RefusesOne}
 use Rattle.arguments.proofs.OneRequest.{each_or_refused}
 use Rattle.arguments.proofs.Read.{all_is, one_is, values_are}
-use Rattle.arguments.proofs.ServeLine.{value_read}
+use Rattle.arguments.proofs.Values.{value_read}
 use Rattle.arguments.proofs.serving.service_of.Goals as goal
 
 pub returns-in_default-clause-err : goal.returns-in_default-clause-err
@@ -37,5 +36,5 @@ pub returns-in_ok-wrong-in-Err-clause-err : goal.returns-in_ok-wrong-in-Err-clau
 returns-in_ok-wrong-in-Err-clause-err c =
     let found = found_of c.args.options.now in
     let pairs : map (λ (v : Bor Text). v.now) c.unwrap_or.result.now ≡ pairs_in (rows_of found) = rw c.unwrap_or.ensures (values_are c.get_strs.result _ (all_of (codes "group") (rows_of found)) refl (c.get_strs.ensures ∙ sym (all_is found (codes "group")))) in
-    let one : RefusesOne [] (map (λ (v : Bor Text). v.now) c.unwrap_or.result.now) c.in-Err.refusal = rw c.in-Err.is at c.in_ok-groups.ensures in
-    inr (c.in_ok-wrong-in-Err.ensures, λ service by. each_or_refused (pairs_in (rows_of found)) [] service.setup.groups c.in-Err.refusal by.groups (subst (λ texts. RefusesOne [] texts c.in-Err.refusal) pairs one))
+    let one : RefusesOne [] (map (λ (v : Bor Text). v.now) c.unwrap_or.result.now) c.in-Err.refused.refusal = rw c.in-Err.is at c.in_ok-groups.ensures in
+    inr (c.in_ok-wrong-in-Err.ensures, λ service by. each_or_refused (pairs_in (rows_of found)) [] service.setup.groups c.in-Err.refused.refusal by.groups (subst (λ texts. RefusesOne [] texts c.in-Err.refused.refusal) pairs one))

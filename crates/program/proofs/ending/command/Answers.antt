@@ -1,22 +1,36 @@
--- A command wrote what its clauses say, in each of the three cases.
-use Rattle.std.proofs.Common.{IfSome, subst, sym}
-use Rattle.arguments.specs.declared.command.Request.TheVariants.{Solo, Drive}
-use Rattle.program.specs.Ending.{Wrote}
+-- A command did what its clauses say, in each of the three cases.
+use Rattle.std.proofs.Common.{◌≡◌, Err, subst, sym}
+use Rattle.drive.specs.Scripts.{script_of}
+use Rattle.drive.specs.Transcripts.{IsDriveOutput}
+use Rattle.solo_output.specs.Output.{IsOutputFor}
+use Rattle.solo_output.specs.Streams.{stream_of}
+use Rattle.program.specs.Ending.{Did}
 use Rattle.program.proofs.Commands.{wrote}
 use Rattle.program.proofs.ending.command.Goals as goal
 
 pub returns-in-Solo : goal.returns-in-Solo
 returns-in-Solo g c =
     let input = g.R.Read.remaining c.args.reader.now in
+    let left = g.R.Read.remaining c.solo.new.reader in
     let old = g.W.Write.contents c.args.output.now in
     let new = g.W.Write.contents c.solo.new.writer in
-    subst (λ request. IfSome input (λ bytes. Wrote request bytes c.solo.result old new)) (sym c.in-Solo.is)
-    (wrote (Solo c.in-Solo.setup) input c.solo.result old new c.solo.ensures.ended c.solo.ensures.bad_line c.solo.ensures.begun c.solo.ensures.kept)
+    subst (λ request. Did request c.solo.result input left old new) (sym c.in-Solo.is)
+    (wrote (λ given. IsOutputFor c.in-Solo.setup given) (λ given line. stream_of given ≡ Err line) input c.solo.result old new c.solo.ensures.ended c.solo.ensures.bad_line c.solo.ensures.begun c.solo.ensures.kept)
 
 pub returns-in-Drive : goal.returns-in-Drive
 returns-in-Drive g c =
     let input = g.R.Read.remaining c.args.reader.now in
+    let left = g.R.Read.remaining c.drive_lines.new.reader in
     let old = g.W.Write.contents c.args.output.now in
     let new = g.W.Write.contents c.drive_lines.new.writer in
-    subst (λ request. IfSome input (λ bytes. Wrote request bytes c.drive_lines.result old new)) (sym c.in-Drive.is)
-    (wrote (Drive c.in-Drive.setup) input c.drive_lines.result old new c.drive_lines.ensures.ended c.drive_lines.ensures.bad_line c.drive_lines.ensures.begun c.drive_lines.ensures.kept)
+    subst (λ request. Did request c.drive_lines.result input left old new) (sym c.in-Drive.is)
+    (wrote (λ given. IsDriveOutput c.in-Drive.setup given) (λ given line. script_of given ≡ Err line) input c.drive_lines.result old new c.drive_lines.ensures.ended c.drive_lines.ensures.bad_line c.drive_lines.ensures.begun c.drive_lines.ensures.kept)
+
+pub returns-in-Serve : goal.returns-in-Serve
+returns-in-Serve g c =
+    let input = g.R.Read.remaining c.args.reader.now in
+    let left = g.R.Read.remaining c.serve.new.reader in
+    let old = g.W.Write.contents c.args.output.now in
+    let new = g.W.Write.contents c.serve.new.output in
+    subst (λ request. Did request c.serve.result input left old new) (sym c.in-Serve.is)
+    (record { written = c.serve.ensures.written; read = c.serve.ensures.read })

@@ -3,11 +3,11 @@ use Rattle.std.proofs.lemmas.Result.{IfOk-weaker}
 use Rattle.clap.specs.Words.{Rule, app_of, new_app, with_rule}
 use Rattle.clap.specs.Simple.{app_of_fields}
 use Rattle.arguments.proofs.Built.{simple_own}
-use Rattle.arguments.proofs.serving.serve_command.Goals as goal
+use Rattle.arguments.proofs.command.serve_command.Goals as goal
 
 pub returns : goal.returns
 returns c =
-    let named : app_of c.about.result ≡ new_app (codes "share_broker serve") = ap app_of_fields c.about.ensures ∙ c.new.ensures.app in
+    let named : app_of c.about.result ≡ new_app (codes "serve") = ap app_of_fields c.about.ensures ∙ c.new.ensures.app in
     let port = c.in_ok-arg.ensures.shape (simple_own c.port.result (ap (λ (r : Rule). r.is_simple) c.port.ensures)) ∙ ap₂ with_rule named c.port.ensures in
     let address = c.in_ok-arg-2.ensures.shape (simple_own c.address.result (ap (λ (r : Rule). r.is_simple) c.address.ensures)) ∙ ap₂ with_rule port c.address.ensures in
     let workers = c.in_ok-arg-3.ensures.shape (simple_own c.workers.result (ap (λ (r : Rule). r.is_simple) c.workers.ensures)) ∙ ap₂ with_rule address c.workers.ensures in

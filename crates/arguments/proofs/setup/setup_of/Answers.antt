@@ -2,9 +2,9 @@ use Rattle.std.proofs.Common.{◌∙◌, ◌≡◌, [], codes, inr, map, refl, s
 use Rattle.std.specs.Borrow.{Bor}
 use Rattle.clap.specs.Words.{Text, all_of, found_of, rows_of}
 use Rattle.arguments.specs.Groups.{AddsEach, RefusesOne}
-use Rattle.arguments.specs.CommandLine.{HaveCapacity, HaveMaxInflight, pairs_in}
+use Rattle.arguments.specs.Options.{HaveCapacity, HaveMaxInflight, pairs_in}
 use Rattle.arguments.proofs.Read.{all_is, values_are}
-use Rattle.arguments.proofs.command.setup.Goals as goal
+use Rattle.arguments.proofs.setup.setup_of.Goals as goal
 
 pub returns-in-Ok-clause-ok : goal.returns-in-Ok-clause-ok
 returns-in-Ok-clause-ok c =
@@ -16,9 +16,9 @@ returns-in-Ok-clause-ok c =
       subst (λ texts. AddsEach [] texts c.in-Ok.groups) pairs all,
     )
 
-pub returns-in_ok-error-in-Err-clause-err : goal.returns-in_ok-error-in-Err-clause-err
-returns-in_ok-error-in-Err-clause-err c =
+pub returns-in_ok-wrong-in-Err-clause-err : goal.returns-in_ok-wrong-in-Err-clause-err
+returns-in_ok-wrong-in-Err-clause-err c =
     let found = found_of c.args.options.now in
     let pairs : map (λ (v : Bor Text). v.now) c.unwrap_or.result.now ≡ pairs_in (rows_of found) = rw c.unwrap_or.ensures (values_are c.get_strs.result _ (all_of (codes "group") (rows_of found)) refl (c.get_strs.ensures ∙ sym (all_is found (codes "group")))) in
-    let one : RefusesOne [] (map (λ (v : Bor Text). v.now) c.unwrap_or.result.now) c.in-Err.refusal = rw c.in-Err.is at c.in_ok-groups.ensures in
-    inr (c.in_ok-error-in-Err.ensures.kind, (c.in-Err.refusal, subst (λ texts. RefusesOne [] texts c.in-Err.refusal) pairs one))
+    let one : RefusesOne [] (map (λ (v : Bor Text). v.now) c.unwrap_or.result.now) c.in-Err.refused.refusal = rw c.in-Err.is at c.in_ok-groups.ensures in
+    inr (c.in_ok-wrong-in-Err.ensures, (c.in-Err.refused.refusal, subst (λ texts. RefusesOne [] texts c.in-Err.refused.refusal) pairs one))

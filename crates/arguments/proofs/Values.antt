@@ -1,13 +1,9 @@
 -- What the getters of clap read of the options of `serve`.
-use Rattle.std.proofs.Common.{◌≡◌, ◌∙◌, ◌<◌, ◌^◌, ℕ, List, [], Option, Some, None, Result, Ok, Err, ap, refl, sym, subst, true}
+use Rattle.std.proofs.Common.{◌≡◌, ◌∙◌, ◌<◌, ◌^◌, ℕ, List, Option, Some, None, Result, Ok, Err, ap, refl, sym, subst}
 use Rattle.std.specs.Prelude.{unwrap_or}
 use Rattle.std.specs.Str.Parse.{ParsesUnsigned, digits_value, without_leading_plus}
-use Rattle.clap.specs.Words.{App, HasMatchesOf, ReadsOne, Text, app_of, fault_of, is_simple, is_simple_and_free, matches_of, found_of, rows_of}
-use Rattle.clap.specs.declared.builder.command.Command.{Command}
-use Rattle.clap.specs.declared.parser.matches.ArgMatches.{ArgMatches}
-use Rattle.clap.proofs.OnLiterals.{clap_on_literals}
-use Rattle.arguments.specs.CommandLine.{Spells}
-use Rattle.arguments.specs.ServeLine.{serve_line}
+use Rattle.clap.specs.Words.{ReadsOne, Text}
+use Rattle.arguments.specs.Options.{Spells}
 
 -- the one text of two
 pub same_text : (o : Option Text) (a b : Text) → o ≡ Some a → o ≡ Some b → a ≡ b
@@ -36,23 +32,5 @@ pub spelled_read : {E : Type 0} (G : List ℕ → Result ℕ E → Type 0) (text
 spelled_read G text number read only spelled small = only text (Err read.0) read.1 (spelled.0, subst (λ n. n < 2 ^ 32) spelled.1 small)
 
 -- a text spells one number
-pub one_number : (a b : Text) (first second : ℕ) → a ≡ b → Spells a first → Spells b second → first ≡ second
-one_number a b first second same h i = h.1 ∙ ap (λ (text : Text). digits_value 10 (without_leading_plus text)) same ∙ sym i.1
-
-is_free : is_simple_and_free serve_line ≡ true
-unfolding clap_on_literals
-is_free = refl
-
-is_plain : is_simple serve_line ≡ true
-unfolding clap_on_literals
-is_plain = refl
-
--- where clap gave matches, it found no fault
-pub no_fault : (command : Command) (words : List Text) → app_of command ≡ serve_line → (is_simple_and_free (app_of command) ≡ true → fault_of (app_of command) words ≡ [])
-    → fault_of serve_line words ≡ []
-no_fault command words line fault = sym (ap (λ (a : App). fault_of a words) line) ∙ fault (ap is_simple_and_free line ∙ is_free)
-
--- and they are those of the words
-pub rows_are : (command : Command) (words : List Text) (matches : ArgMatches) → app_of command ≡ serve_line → HasMatchesOf (app_of command) words matches
-    → rows_of (found_of matches) ≡ matches_of serve_line words
-rows_are command words matches line has = (has (ap is_simple line ∙ is_plain)).0 ∙ ap (λ (a : App). matches_of a words) line
+pub spelled_once : (a b : Text) (first second : ℕ) → a ≡ b → Spells a first → Spells b second → first ≡ second
+spelled_once a b first second same h i = h.1 ∙ ap (λ (text : Text). digits_value 10 (without_leading_plus text)) same ∙ sym i.1

@@ -1,9 +1,9 @@
 use Rattle.std.proofs.Common.{◌∙◌, ◌≡◌, ◌≤◌, arith, codes, subst, sym}
 use Rattle.std.specs.Str.Parse.{ExplainsUnsignedError, HasUnsignedDigitsIfOk, ParsesUnsigned}
 use Rattle.clap.specs.Words.{found_of, rows_of}
-use Rattle.arguments.specs.CommandLine.{HaveMaxInflight}
+use Rattle.arguments.specs.Options.{HaveMaxInflight}
 use Rattle.arguments.proofs.Read.{number_read, one_is}
-use Rattle.arguments.proofs.command.packets.Goals as goal
+use Rattle.arguments.proofs.setup.packets.Goals as goal
 
 pub returns : goal.returns
 returns c =

@@ -1,0 +1,94 @@
+-- The options of the commands, and the values that they have (profile).
+use Rattle.std.specs.Prelude.{◌≡◌, ℕ, ◌≤◌, codes, true, List, ◌∷◌, [], Some, pos, unwrap_or}
+use Rattle.std.specs.Str.Parse.{IsNumeral, digits_value, without_leading_plus}
+use Rattle.clap.specs.Words.{Row, Rule, Text, all_of, first_of, new_rule, one_of}
+use Rattle.clap.specs.declared.builder.action.ArgAction.TheVariants.{Append}
+use Rattle.clap.specs.declared.builder.value_parser.ValueParser.TheVariants.{Signed}
+
+-- ---- the options, in clap's words
+
+-- `--capacity N`, at most once: a number from 1 to 65536, and 1024 where it is not given
+abbrev pub capacity_option : Rule
+capacity_option = record (new_rule (codes "capacity")) {
+  long = Some (codes "capacity");
+  value_names = 1;
+  parser = Some (Signed (pos 1) (pos 65536));
+  defaults = codes "1024" ∷ [];
+}
+
+-- `--max-inflight M`, at most once: a number from 1 to 256, and 256 where it is not given
+abbrev pub max_inflight_option : Rule
+max_inflight_option = record (new_rule (codes "max-inflight")) {
+  long = Some (codes "max-inflight");
+  value_names = 1;
+  parser = Some (Signed (pos 1) (pos 256));
+  defaults = codes "256" ∷ [];
+}
+
+-- `--group NAME:FILTER`, any number of times
+abbrev pub group_option : Rule
+group_option = record (new_rule (codes "group")) {
+  long = Some (codes "group");
+  value_names = 1;
+  action = Some Append;
+}
+
+-- `--port P`, which has to be given: a number from 0 to 65535
+abbrev pub port_option : Rule
+port_option = record (new_rule (codes "port")) {
+  long = Some (codes "port");
+  value_names = 1;
+  parser = Some (Signed (pos 0) (pos 65535));
+  required = true;
+}
+
+-- `--address IP`, at most once: a text, and 127.0.0.1 where it is not given
+abbrev pub address_option : Rule
+address_option = record (new_rule (codes "address")) {
+  long = Some (codes "address");
+  value_names = 1;
+  defaults = codes "127.0.0.1" ∷ [];
+}
+
+-- `--workers W`, at most once: a number from 1 to 64, and 8 where it is not given
+abbrev pub workers_option : Rule
+workers_option = record (new_rule (codes "workers")) {
+  long = Some (codes "workers");
+  value_names = 1;
+  parser = Some (Signed (pos 1) (pos 64));
+  defaults = codes "8" ∷ [];
+}
+
+-- ---- the values that they have
+
+-- a text spells a number in decimal digits, after a plus or none
+abbrev pub Spells : Text → ℕ → Type 0
+Spells text number = IsNumeral 10 (without_leading_plus text) × (number ≡ digits_value 10 (without_leading_plus text))
+
+-- the value of an option, as given or as left out, is a number from 1 to the most
+pub record HaveNumber (id : Text) (most : ℕ) (rows : List Row) (number : ℕ) : Type 0 where
+  pub text : Text
+  pub value : first_of id rows ≡ Some text
+  pub spelled : Spells text number
+  pub from : 1 ≤ number
+  pub to : number ≤ most
+
+-- that of `--capacity` is one from 1 to 65536
+abbrev pub HaveCapacity : List Row → ℕ → Type 0
+HaveCapacity rows number = HaveNumber (codes "capacity") 65536 rows number
+
+-- that of `--max-inflight` is one from 1 to 256
+abbrev pub HaveMaxInflight : List Row → ℕ → Type 0
+HaveMaxInflight rows number = HaveNumber (codes "max-inflight") 256 rows number
+
+-- the value of an option, as given or as left out, is this number, and lies in this range: as clap reads it, to which -0 is 0
+pub record HasNumber (id : Text) (least most : ℕ) (rows : List Row) (number : ℕ) : Type 0 where
+  pub text : Text
+  pub value : one_of id rows ≡ Some text
+  pub spelled : Spells text number
+  pub from : least ≤ number
+  pub to : number ≤ most
+
+-- the pairs NAME:FILTER that were given, in order
+abbrev pub pairs_in : List Row → List Text
+pairs_in rows = unwrap_or (all_of (codes "group") rows) []

@@ -1,0 +1,81 @@
+//! The options of the commands.
+ghost use Rattle.std.specs.Prelude.{◌≡◌};
+ghost use Rattle.clap.specs.Words.{rule_of};
+ghost use Rattle.arguments.specs.Options.{address_option, capacity_option, group_option, max_inflight_option, port_option, workers_option};
+
+use clap::{Arg, ArgAction, value_parser};
+use std::alloc::Global;
+
+/// `--capacity N`.
+pub(crate) fn capacity<'a>(alloc: Global) -> Arg<'a>
+    ensures { rule_of result ≡ capacity_option }
+{
+    Arg::new(alloc, "capacity")
+        .long("capacity")
+        .value_name("N")
+        .value_parser(value_parser!(u32).range(1..=65_536))
+        .default_value("1024")
+        .help("How many messages may wait in the queue of a group, 1 to 65536")
+}
+
+/// `--max-inflight M`.
+pub(crate) fn max_inflight<'a>(alloc: Global) -> Arg<'a>
+    ensures { rule_of result ≡ max_inflight_option }
+{
+    Arg::new(alloc, "max-inflight")
+        .long("max-inflight")
+        .value_name("M")
+        .value_parser(value_parser!(u32).range(1..=256))
+        .default_value("256")
+        .help("How many messages a client has unacknowledged at most, 1 to 256")
+}
+
+/// `--group NAME:FILTER`.
+pub(crate) fn group<'a>(alloc: Global) -> Arg<'a>
+    ensures { rule_of result ≡ group_option }
+{
+    Arg::new(alloc, "group")
+        .long("group")
+        .value_name("NAME:FILTER")
+        .action(ArgAction::Append)
+        .help("A group that is there from the start: $share/NAME/FILTER; at most eight")
+}
+
+/// `--port P`.
+pub(crate) fn port<'a>(alloc: Global) -> Arg<'a>
+    ensures { rule_of result ≡ port_option }
+{
+    Arg::new(alloc, "port")
+        .long("port")
+        .value_name("P")
+        .required(true)
+        .value_parser(value_parser!(u32).range(0..=65_535))
+        .help(
+            "The port to listen at, 0 to 65535; at 0 the system chooses one, and the first line printed tells which",
+        )
+}
+
+/// `--address IP`.
+pub(crate) fn address<'a>(alloc: Global) -> Arg<'a>
+    ensures { rule_of result ≡ address_option }
+{
+    Arg::new(alloc, "address")
+        .long("address")
+        .value_name("IP")
+        .default_value("127.0.0.1")
+        .help(
+            "The IPv4 address of this machine to listen at, or 0.0.0.0 for each of them. Nobody is asked for a password",
+        )
+}
+
+/// `--workers W`.
+pub(crate) fn workers<'a>(alloc: Global) -> Arg<'a>
+    ensures { rule_of result ≡ workers_option }
+{
+    Arg::new(alloc, "workers")
+        .long("workers")
+        .value_name("W")
+        .value_parser(value_parser!(u32).range(1..=64))
+        .default_value("8")
+        .help("How many threads serve connections, 1 to 64")
+}
