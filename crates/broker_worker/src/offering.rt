@@ -79,8 +79,9 @@ impl<'a, 'g, B: Broker, N: HistoryName, T: Transport + Drop, Q: Poller<T> + Drop
         if !self.connections.would_take(cell, slot) {
             return false;
         }
+        let before = self.held_at(cell, slot);
         let round = self.round(cell, Direction::Outbound, buffer, 1);
-        self.note_offered(cell, slot);
+        self.note_offered(cell, slot, before);
         goes_on(round)
     }
 }

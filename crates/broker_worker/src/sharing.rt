@@ -10,7 +10,7 @@ use call_history::HistoryName;
 use conn_service::Direction;
 use std::sync::Wait;
 use transport::Transport;
-use worker_bells::{Average, HeldCounts, Hint, Level, Load, SLOTS};
+use worker_bells::{Average, Held, HeldCounts, Hint, Level, Load, SLOTS};
 use worker_connections::Poller;
 
 /// Of so many workers at most it is told what they have: no broker has more.
@@ -45,6 +45,8 @@ impl Plan {
 #[derive(Drop)]
 pub(crate) struct Sharing {
     plans: [Plan; SLOTS],
+    // For each group, whether its own members discarded some of what they were handed since it was planned for, and have room for others.
+    discards: [bool; SLOTS],
     // How many of its own members have how many.
     own: HeldCounts,
     // For each group, how many messages each of its own members was handed.
@@ -58,6 +60,7 @@ impl Sharing {
     /// Nothing is known, and nothing to be done.
     pub(crate) const NONE: Sharing = Sharing {
         plans: [Plan::NONE; SLOTS],
+        discards: [false; SLOTS],
         own: HeldCounts::NONE,
         averages: [Average::NONE; SLOTS],
         others: [Load::NONE; MOST_WORKERS],
@@ -80,6 +83,30 @@ impl Sharing {
             fewest[slot] = self.plans[slot].fewest;
         }
         fewest
+    }
+
+    /// Notes that a member of its own discarded some of what it was handed of a group, and has room for others.
+    fn note_discards(&mut self, slot: usize) {
+        if let Some(discards) = self.discards.get_mut(slot) {
+            *discards = true;
+        }
+    }
+
+    /// Whether one did since the group was planned for, as it is from now on.
+    fn take_discards(&mut self, slot: usize) -> bool {
+        match self.discards.get_mut(slot) {
+            Some(discards) => {
+                let was = *discards;
+                *discards = false;
+                was
+            }
+            None => false,
+        }
+    }
+
+    /// Whether there is a group of which one did since it was planned for.
+    pub(crate) fn has_discards(&self) -> bool {
+        self.discards.contains(&true)
     }
 
     /// How many messages each of its own members of a group was handed.
@@ -211,14 +238,19 @@ impl<'a, 'g, B: Broker, N: HistoryName, T: Transport + Drop, Q: Poller<T> + Drop
         }
     }
 
-    /// The same for one group.
+    /// The same for one group. Where its own members discarded what they were handed, it goes on as if it was called again.
     fn plan_for(&mut self, slot: usize)
         ensures same { self.new.connections ≡ self.old.connections }
         ensures bells { self.new.bells ≡ self.old.bells }
     {
         let (is_rung, is_called) = self.own_bells.take(slot);
         let has_changed = self.connections.take_changed(slot);
-        let plan = self.plan_of(slot, is_rung || has_changed, is_called);
+        let has_discards = self.sharing.take_discards(slot);
+        let plan = self.plan_of(
+            slot,
+            is_rung || has_changed || has_discards,
+            is_called || has_discards,
+        );
         if let Some(place) = self.sharing.plans.get_mut(slot) {
             *place = plan;
         }
@@ -365,22 +397,39 @@ impl<'a, 'g, B: Broker, N: HistoryName, T: Transport + Drop, Q: Poller<T> + Drop
     fn hand_to(&mut self, cell: usize, slot: usize, most: u32, buffer: &mut [u8; READ_SIZE]) -> u32
         ensures { Rounds self.old.connections self.new.connections }
     {
+        let before = self.held_at(cell, slot);
         let _round = self.round(cell, Direction::Outbound, buffer, most);
         let handed = most.saturating_sub(self.connections.unused());
         if handed > 0 {
-            self.connections.note_served(cell, slot);
+            self.note_handed_to(cell, slot, before, handed);
         }
         handed
     }
 
-    /// Notes that the client in a cell was handed a message, where the latest round did that, and tells the others.
-    pub(crate) fn note_offered(&mut self, cell: usize, slot: usize)
+    /// Notes that the client in a cell, which had so much, was handed a message, where the latest round did that, and tells the others.
+    pub(crate) fn note_offered(&mut self, cell: usize, slot: usize, before: Option<Held>)
         ensures same { self.new.connections ≡ self.old.connections }
         ensures bells { self.new.bells ≡ self.old.bells }
     {
         if self.connections.unused() == 0 {
-            self.connections.note_served(cell, slot);
+            self.note_handed_to(cell, slot, before, 1);
             self.tell_handed(slot, 1, 1);
+        }
+    }
+
+    /// What the client in a cell has, where it is a member of a group that has room, and reads.
+    pub(crate) fn held_at(&self, cell: usize, slot: usize) -> Option<Held> {
+        self.connections.members().held_at(cell, slot)
+    }
+
+    /// Notes that the client in a cell, which had so much, was handed so many messages. Where it discarded some, and has room still, the group is planned for again.
+    fn note_handed_to(&mut self, cell: usize, slot: usize, before: Option<Held>, messages: u32)
+        ensures same { self.new.connections ≡ self.old.connections }
+        ensures bells { self.new.bells ≡ self.old.bells }
+    {
+        self.connections.note_served(cell, slot);
+        if holds_fewer(before, self.held_at(cell, slot), messages) {
+            self.sharing.note_discards(slot);
         }
     }
 
@@ -391,6 +440,15 @@ impl<'a, 'g, B: Broker, N: HistoryName, T: Transport + Drop, Q: Poller<T> + Drop
     {
         self.sharing.note_handed(slot, messages, members);
         self.tell_load(slot, self.connections.members().load(slot), 0);
+    }
+}
+
+/// Whether a client that has room before and after it was handed so many messages holds fewer more than these: the others were discarded.
+fn holds_fewer(before: Option<Held>, after: Option<Held>, messages: u32) -> bool {
+    match (before, after) {
+        (Some(before), Some(after)) => u32::from(after.count.saturating_sub(before.count))
+            < messages,
+        _ => false,
     }
 }
 

@@ -3,3 +3,4 @@
 mod broker;
 mod connections;
 mod crossing;
+mod discarding;

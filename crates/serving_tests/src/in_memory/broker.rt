@@ -9,7 +9,7 @@ use broker_worker::UnusedPoller;
 use call_history::HistoryName;
 use conn_rules::MaxInflight;
 use gate_word::{Gate, GateSeat};
-use group_jobs::Envelope;
+use group_jobs::{Envelope, Report};
 use group_queue::Nobody;
 use scripted_transport::Scripted;
 use shared_desk::OpenedDesk;
@@ -23,15 +23,44 @@ use transport::Source;
 use worker_pool::{Closer, PoolSetup};
 
 /// How many messages each group has room for.
-const CAPACITY: usize = 8;
+const CAPACITY: usize = 1_024;
 
-/// What came of a broker: how many connections came, how many ended with 0 and how many in any way, and how many groups gave a report.
+/// How many groups gave a report, and by all of these how many messages sessions held, how many waited in a queue, and how many were discarded.
+#[derive(Clone, Copy, Debug, PartialEq, Eq)]
+pub(crate) struct Reports {
+    pub(crate) groups: usize,
+    pub(crate) held: usize,
+    pub(crate) queued: usize,
+    pub(crate) discarded: u128,
+}
+
+impl Reports {
+    /// Those of no group.
+    const NONE: Reports = Reports {
+        groups: 0,
+        held: 0,
+        queued: 0,
+        discarded: 0,
+    };
+
+    /// A report more.
+    fn count(&mut self, report: &Report) {
+        self.groups = self.groups.saturating_add(1);
+        self.held = self.held.saturating_add(report.held.len());
+        self.queued = self.queued.saturating_add(report.queued.len());
+        self.discarded = self
+            .discarded
+            .saturating_add(report.settled.discarded.len());
+    }
+}
+
+/// What came of a broker: how many connections came, how many ended with 0 and how many in any way, and what its groups reported.
 #[derive(Clone, Copy, Debug, PartialEq, Eq)]
 pub(crate) struct Told {
     pub(crate) came: u64,
     pub(crate) ended: u64,
     pub(crate) counted: u64,
-    pub(crate) reports: usize,
+    pub(crate) reports: Reports,
 }
 
 /// Lets go of a message.
@@ -39,16 +68,16 @@ fn discard(envelope: Envelope) {
     let _parts = envelope.open();
 }
 
-/// How many groups gave a report.
-fn count_reports(ended: Ended<'_>) -> usize {
+/// What groups reported.
+fn count_reports(ended: Ended<'_>) -> Reports {
     let Ended {
         mut answers,
         mut strangers,
     } = ended;
-    let mut reports = 0usize;
+    let mut reports = Reports::NONE;
     'answers: while let Some(answer) = answers.pop() {
         match answer {
-            Ok(_report) => reports = reports.saturating_add(1),
+            Ok(report) => reports.count(&report),
             Err(unfinished) => {
                 unfinished.abandon();
             }

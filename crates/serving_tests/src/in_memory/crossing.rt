@@ -2,7 +2,7 @@
 ghost use Rattle.std.specs.Prelude.{◌≡◌, None, IfOk};
 ghost use Rattle.transport.specs.Counting.{no_counts};
 
-use crate::in_memory::broker::{Told, serve_all};
+use crate::in_memory::broker::{Reports, Told, serve_all};
 use scripted_transport::Scripted;
 use std::alloc::{AllocError, Global};
 use std::test::Fail;
@@ -68,7 +68,12 @@ fn crossing(rt: HostRuntime) -> Result<(), Fail> {
             came: u64::from(workers),
             ended: u64::from(workers),
             counted: u64::from(workers),
-            reports: 8,
+            reports: Reports {
+                groups: 8,
+                held: 0,
+                queued: 0,
+                discarded: 0,
+            },
         };
         assert_eq!(rt; told, Some(well));
     }

@@ -1,0 +1,102 @@
+//! Messages that are longer than their member's Maximum Packet Size, and a short one behind them.
+ghost use Rattle.std.specs.Prelude.{◌≡◌, None, IfOk};
+ghost use Rattle.transport.specs.Counting.{no_counts};
+
+use crate::in_memory::broker::{Reports, Told, serve_all};
+use crate::link::{SUBSCRIBE, publish};
+use scripted_transport::{ReadTurn, Scripted};
+use std::alloc::{AllocError, Global};
+use std::test::Fail;
+use transport::{Arrival, Source};
+
+/// How many messages are too long: more than three times what a worker hands a member in a turn.
+const LONG: u16 = 800;
+
+/// How many bytes a turn reads at most, and how often the client's stream is read before it ends.
+const PIECE: usize = 4_096;
+
+const READS: usize = 32;
+
+/// A CONNECT of a client whose session lives for an hour after its connection, with a Maximum Packet Size of 64.
+const CONNECT: [u8; 27] =
+    *b"\x10\x19\x00\x04MQTT\x05\x02\x00\x3C\x0A\x11\x00\x00\x0E\x10\x27\x00\x00\x00\x40\x00\x02w1";
+
+/// An UNSUBSCRIBE from `$share/g/job`.
+const UNSUBSCRIBE: [u8; 19] = *b"\xA2\x11\x00\x02\x00\x00\x0C$share/g/job";
+
+/// A PUBLISH to `job` of 65 bytes, but for its payload.
+const LONG_PUBLISH: [u8; 10] = *b"\x32\x3F\x00\x03job\x00\x07\x00";
+
+/// A connection whose client leaves its group, publishes long messages and a short one, joins the group again, and says nothing more for some turns.
+fn client(alloc: Global) -> Result<Scripted, AllocError>
+    ensures { IfOk result (λ scripted. scripted.counts ≡ no_counts) }
+{
+    let mut input = CONNECT.to_vec(alloc)?;
+    input.extend_from_slice(&SUBSCRIBE)?;
+    input.extend_from_slice(&UNSUBSCRIBE)?;
+    for _ in 0..LONG {
+        input.extend_from_slice(&LONG_PUBLISH)?;
+        input.extend_from_slice(&[b'A'; 55])?;
+    }
+    input.extend_from_slice(&publish(8, *b"AA"))?;
+    input.extend_from_slice(&SUBSCRIBE)?;
+    let reads = vec![in alloc; ReadTurn::AtMost(PIECE); READS]?;
+    Scripted::new(alloc, input, reads, Vec::new(alloc), PIECE)
+}
+
+/// Where its connection comes from.
+#[derive(Drop)]
+struct OneClient {
+    alloc: Global,
+    arrivals: u64,
+}
+
+impl Source<Scripted> for OneClient {
+    ghost tally = { λ c. record { failures = 0; arrivals = c.arrivals } };
+
+    ghost arrived = { λ c. None };
+
+    fn next(&mut self) -> Arrival<Scripted> {
+        if self.arrivals > 0 {
+            return Arrival::End;
+        }
+        match client(self.alloc) {
+            Ok(connection) => {
+                self.arrivals = 1;
+                Arrival::Came(connection)
+            }
+            Err(_) => Arrival::End,
+        }
+    }
+
+    fn failures(&self) -> u64 {
+        0
+    }
+
+    fn arrivals(&self) -> u64 {
+        self.arrivals
+    }
+}
+
+// Long messages wait before their member joins: all are discarded, and it is sent the short one behind them, within the turns in which its stream is read. No sweep begins, as no time goes by.
+#[test]
+fn discarding(rt: HostRuntime) -> Result<(), Fail> {
+    let source = OneClient {
+        alloc: rt.alloc(),
+        arrivals: 0,
+    };
+    let told = serve_all(&rt, rt.alloc(), 1, source);
+    let well = Told {
+        came: 1,
+        ended: 1,
+        counted: 1,
+        reports: Reports {
+            groups: 8,
+            held: 1,
+            queued: 0,
+            discarded: u128::from(LONG),
+        },
+    };
+    assert_eq!(rt; told, Some(well));
+    Ok(())
+}
