@@ -1,5 +1,5 @@
 -- Words ask for one thing.
-use Rattle.std.proofs.Common.{◌≡◌, ◌∙◌, ◌≤◌, ℕ, List, [], ◌∷◌, Option, Some, None, Ok, Err, ap, arith, codes, inl, inr, rules, subst, sym}
+use Rattle.std.proofs.Common.{◌≡◌, ◌∙◌, ◌≤◌, ℕ, List, [], ◌∷◌, Option, Some, None, Ok, Err, ap, arith, codes, inl, inr, refl, rules, subst, sym}
 use Rattle.std.specs.Prelude.{IsSome, unwrap_or}
 use Rattle.std.specs.Str.Parse.{digits_value, without_leading_plus}
 use Rattle.std.specs.Coded.{×_prop, le_prop}
@@ -13,12 +13,14 @@ use Rattle.clap.specs.declared.error.kind.ErrorKind.{ErrorKind}
 use Rattle.conn_rules.specs.declared.setup.Setup.{Setup}
 use Rattle.arguments.specs.Groups.{Adds, AddsEach, RefusesOne, share_named}
 use Rattle.arguments.specs.Options.{HasNumber, HaveNumber, pairs_in}
-use Rattle.arguments.specs.CommandLine.{AreReadAs, AskFor, HaveNoService, HaveRefusedPair, IsServiceBy, IsSetupBy, SpellNoRequest, command_line}
+use Rattle.arguments.specs.CommandLine.{AreReadAs, AskFor, HaveNoService, HaveRefusedPair, IsServiceBy, IsSetupBy, SpellNoRequest, command_line, word_of}
 use Rattle.arguments.specs.declared.command.Request.{Request}
 use Rattle.arguments.specs.declared.command.Request.TheVariants.{Drive, Serve, Solo}
 use Rattle.arguments.specs.declared.groups.Refusal.{Refusal}
 use Rattle.arguments.specs.declared.groups.Refusal.TheVariants.{Ninth, NoShare, Twice}
 use Rattle.arguments.specs.declared.service.ServeOptions.{ServeOptions}
+use Rattle.arguments.specs.declared.service.ServeUntil.{ServeUntil}
+use Rattle.arguments.specs.declared.service.ServeUntil.TheVariants.{Stdin, Killed}
 use Rattle.arguments.proofs.Taken.{same_pair}
 use Rattle.arguments.proofs.Values.{same_text, spelled_once}
 
@@ -66,6 +68,23 @@ one_address : (rows : List Row) (a b : ServeOptions) → IsServiceBy rows a → 
 one_address rows a b h i =
     IsIpv4Text_unique i.text a.address b.address (subst (λ text. IsIpv4Text text a.address) (same_text _ h.text i.text h.value i.value) h.address) i.address
 
+abbrev first_letter : Text → ℕ
+first_letter [] = 0
+first_letter (letter ∷ letters) = letter
+
+one_word : (a b : ServeUntil) → word_of a ≡ word_of b → a ≡ b
+one_word Stdin Stdin same = refl
+one_word Killed Killed same = refl
+one_word Stdin Killed same =
+    let letters : 115 ≡ 107 = ap first_letter same in
+    absurd (omega (arith, letters))
+one_word Killed Stdin same =
+    let letters : 107 ≡ 115 = ap first_letter same in
+    absurd (omega (arith, letters))
+
+one_until : (rows : List Row) (a b : ServeOptions) → IsServiceBy rows a → IsServiceBy rows b → a.until ≡ b.until
+one_until rows a b h i = one_word a.until b.until (same_text _ (word_of a.until) (word_of b.until) h.until i.until)
+
 abbrev IsFew : ℕ → Type 0
 IsFew workers = (1 ≤ workers) × (workers ≤ 64)
 
@@ -75,10 +94,11 @@ one_service rows a b h i =
     let address = one_address rows a b h i in
     let port = one_number_read (codes "port") 0 65535 rows a.port b.port h.port i.port in
     let workers = one_number_read (codes "workers") 1 64 rows a.workers b.workers h.workers i.workers in
+    let until = one_until rows a b h i in
     let capacity = one_number_read (codes "capacity") 1 65536 rows a.setup.capacity b.setup.capacity h.capacity i.capacity in
     let max_inflight = one_number_read (codes "max-inflight") 1 256 rows a.setup.max_inflight b.setup.max_inflight h.max_inflight i.max_inflight in
     let groups = each_one (pairs_in rows) [] a.setup.groups b.setup.groups h.groups i.groups in
-    (λ i. record { address = address i; port = port i; workers = workers i; setup = made (capacity i) (max_inflight i) (groups i); few = is_prop→PathP (λ j. IsFew (workers j)) (λ j. ×_prop le_prop le_prop) a.few b.few i })
+    (λ i. record { address = address i; port = port i; workers = workers i; until = until i; setup = made (capacity i) (max_inflight i) (groups i); few = is_prop→PathP (λ j. IsFew (workers j)) (λ j. ×_prop le_prop le_prop) a.few b.few i })
 
 one_reading : (words : List Text) (a b : Text) (x y : List Row) → AreReadAs words a x → AreReadAs words b y → (a ≡ b) × (y ≡ x)
 one_reading words a b x y h i = same_pair (subcommand_of command_line words) a b x y h.1 i.1
@@ -88,10 +108,6 @@ not_drive e = cc
 
 not_serve : codes "solo" ≡ codes "serve" → ⊥
 not_serve e = cc
-
-abbrev first_letter : Text → ℕ
-first_letter [] = 0
-first_letter (letter ∷ letters) = letter
 
 drive_not_serve : codes "drive" ≡ codes "serve" → ⊥
 drive_not_serve e =

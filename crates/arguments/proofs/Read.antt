@@ -4,7 +4,7 @@ use Rattle.std.specs.Prelude.{find, option_and_then, slice_get, unwrap_or}
 use Rattle.std.specs.Str.{bytes_eq}
 use Rattle.std.specs.Str.Parse.{ParsesUnsigned}
 use Rattle.std.specs.Borrow.{Bor}
-use Rattle.clap.specs.Words.{ReadsOne, Row, Text, all_of, matched_of, one_of, one_text, raw_values, read_as, rows_of}
+use Rattle.clap.specs.Words.{ReadsOne, Row, Text, all_of, first_of, first_value, matched_of, one_of, one_text, raw_values, read_as, rows_of}
 use Rattle.clap.specs.Facts.{Entry}
 use Rattle.clap.specs.Walk.{row_of, row_text}
 use Rattle.clap.specs.declared.parser.matches.Found.{Found}
@@ -30,6 +30,17 @@ one_is found id = ap (option_and_then row_text) (found_row id found.entries.item
     go : (o : Option Entry) → option_and_then row_text (option_map row_of o) ≡ option_and_then (λ a. option_map (λ s. read_as a.reading s.now) (slice_get a.vals.items 0)) (option_map (λ e. e.1) o)
     go None = refl
     go (Some e) = first e e.1.vals.items
+
+pub first_is : (found : Found) (id : Text) → first_of id (rows_of found) ≡ first_value found id
+first_is found id = ap (option_and_then (λ (r : Row). slice_get r.values 0)) (found_row id found.entries.items) ∙ go (find (λ e. bytes_eq e.0.now id) found.entries.items)
+  where
+    first : (vs : List (Bor Text)) → slice_get (map (λ s. s.now) vs) 0 ≡ option_map (λ s. s.now) (slice_get vs 0)
+    first [] = refl
+    first (v ∷ vs) = refl
+
+    go : (o : Option Entry) → option_and_then (λ (r : Row). slice_get r.values 0) (option_map row_of o) ≡ option_and_then (λ a. option_map (λ s. s.now) (slice_get a.vals.items 0)) (option_map (λ e. e.1) o)
+    go None = refl
+    go (Some e) = first e.1.vals.items
 
 pub all_is : (found : Found) (id : Text) → all_of id (rows_of found) ≡ option_map raw_values (matched_of found id)
 all_is found id = ap (option_map (λ (r : Row). r.values)) (found_row id found.entries.items) ∙ go (find (λ e. bytes_eq e.0.now id) found.entries.items)

@@ -1,13 +1,21 @@
 -- What the getters of clap read of the options of `serve`.
-use Rattle.std.proofs.Common.{◌≡◌, ◌∙◌, ◌<◌, ◌^◌, ℕ, List, Option, Some, None, Result, Ok, Err, ap, refl, sym, subst}
+use Rattle.std.proofs.Common.{◌≡◌, ◌∙◌, ◌<◌, ◌^◌, ℕ, List, Option, Some, None, Result, Ok, Err, ap, codes, refl, sym, subst}
 use Rattle.std.specs.Prelude.{unwrap_or}
 use Rattle.std.specs.Str.Parse.{ParsesUnsigned, digits_value, without_leading_plus}
 use Rattle.clap.specs.Words.{ReadsOne, Text}
 use Rattle.arguments.specs.Options.{Spells}
+use Rattle.arguments.specs.CommandLine.{word_of}
+use Rattle.arguments.specs.declared.service.ServeUntil.{ServeUntil}
+use Rattle.arguments.specs.declared.service.ServeUntil.TheVariants.{Stdin, Killed}
 
 -- the one text of two
 pub same_text : (o : Option Text) (a b : Text) → o ≡ Some a → o ≡ Some b → a ≡ b
 same_text o a b first second = ap (λ (o : Option Text). unwrap_or o a) (sym first ∙ second)
+
+-- a word that is neither is none of `--until`
+pub neither_word : (until : ServeUntil) (word : Text) → (word ≡ codes "stdin" → ⊥) → (word ≡ codes "killed" → ⊥) → word ≡ word_of until → ⊥
+neither_word Stdin word stdin killed is = stdin is
+neither_word Killed word stdin killed is = killed is
 
 -- what was read stands in the value
 pub value_read : {A E : Type 0} (G : List ℕ → Result A E → Type 0) (value : Option Text) (given : A) → (value ≡ None → Some given ≡ None)

@@ -1,17 +1,19 @@
 -- The command line: its commands, what words ask for, and why words spell no request (profile).
 use Rattle.std.specs.Prelude.{◌≡◌, ◌⊎◌, codes, true, List, [], Some}
 use Rattle.std.specs.Net.Grammar.{IsIpv4Text}
-use Rattle.clap.specs.Words.{App, IsAmong, Row, Text, fault_of, new_app, one_of, subcommand_of, with_rule, with_subcommand}
+use Rattle.clap.specs.Words.{App, IsAmong, Row, Text, fault_of, first_of, new_app, one_of, subcommand_of, with_rule, with_subcommand}
 use Rattle.clap.specs.Simple.{on_top}
 use Rattle.clap.specs.declared.error.kind.ErrorKind.{ErrorKind}
 use Rattle.clap.specs.declared.error.kind.ErrorKind.TheVariants.{ValueValidation}
 use Rattle.conn_rules.specs.declared.setup.Setup.{Setup}
 use Rattle.arguments.specs.Groups.{AddsEach, RefusesOne}
-use Rattle.arguments.specs.Options.{address_option, capacity_option, group_option, max_inflight_option, port_option, workers_option, HasNumber, HaveCapacity, HaveMaxInflight, pairs_in}
+use Rattle.arguments.specs.Options.{address_option, capacity_option, group_option, max_inflight_option, port_option, until_option, workers_option, HasNumber, HaveCapacity, HaveMaxInflight, pairs_in}
 use Rattle.arguments.specs.declared.command.Request.{Request}
 use Rattle.arguments.specs.declared.command.Request.TheVariants.{Solo, Drive, Serve}
 use Rattle.arguments.specs.declared.groups.Refusal.{Refusal}
 use Rattle.arguments.specs.declared.service.ServeOptions.{ServeOptions}
+use Rattle.arguments.specs.declared.service.ServeUntil.{ServeUntil}
+use Rattle.arguments.specs.declared.service.ServeUntil.TheVariants.{Stdin, Killed}
 
 -- ---- the commands, in clap's words
 
@@ -19,10 +21,13 @@ use Rattle.arguments.specs.declared.service.ServeOptions.{ServeOptions}
 abbrev pub command_named : Text → App
 command_named name = with_rule (with_rule (with_rule (new_app name) capacity_option) max_inflight_option) group_option
 
--- `serve`, with three options of its own before them
+-- the four options that `serve` has of its own
+abbrev pub serve_alone : App
+serve_alone = with_rule (with_rule (with_rule (with_rule (new_app (codes "serve")) port_option) address_option) workers_option) until_option
+
+-- `serve`, with these before them
 abbrev pub serve_command : App
-serve_command =
-    with_rule (with_rule (with_rule (with_rule (with_rule (with_rule (new_app (codes "serve")) port_option) address_option) workers_option) capacity_option) max_inflight_option) group_option
+serve_command = with_rule (with_rule (with_rule serve_alone capacity_option) max_inflight_option) group_option
 
 -- `share_broker`, which has a version, and wants a command
 abbrev pub share_broker : App
@@ -39,6 +44,11 @@ command_line =
 abbrev pub IsSetupBy : List Row → Setup → Type 0
 IsSetupBy rows setup = HaveCapacity rows setup.capacity × HaveMaxInflight rows setup.max_inflight × AddsEach [] (pairs_in rows) setup.groups
 
+-- the word of `--until`
+abbrev pub word_of : ServeUntil → Text
+word_of Stdin = codes "stdin"
+word_of Killed = codes "killed"
+
 -- what a broker on TCP begins with, by the values that the options of `serve` have
 pub record IsServiceBy (rows : List Row) (service : ServeOptions) : Type 0 where
   pub text : Text
@@ -46,6 +56,7 @@ pub record IsServiceBy (rows : List Row) (service : ServeOptions) : Type 0 where
   pub address : IsIpv4Text text service.address
   pub port : HasNumber (codes "port") 0 65535 rows service.port
   pub workers : HasNumber (codes "workers") 1 64 rows service.workers
+  pub until : first_of (codes "until") rows ≡ Some (word_of service.until)
   pub capacity : HasNumber (codes "capacity") 1 65536 rows service.setup.capacity
   pub max_inflight : HasNumber (codes "max-inflight") 1 256 rows service.setup.max_inflight
   pub groups : AddsEach [] (pairs_in rows) service.setup.groups

@@ -59,6 +59,14 @@ workers_option = record (new_rule (codes "workers")) {
   defaults = codes "8" ∷ [];
 }
 
+-- `--until WHEN`, at most once: a text, and stdin where it is not given
+abbrev pub until_option : Rule
+until_option = record (new_rule (codes "until")) {
+  long = Some (codes "until");
+  value_names = 1;
+  defaults = codes "stdin" ∷ [];
+}
+
 -- ---- the values that they have
 
 -- a text spells a number in decimal digits, after a plus or none

@@ -4,7 +4,7 @@ ghost use Rattle.std.specs.String.{string_bytes};
 ghost use Rattle.clap.specs.Words.{app_of, kind_of};
 ghost use Rattle.arguments.specs.CommandLine.{command_line, command_named, serve_command, AskFor, SpellNoRequest};
 
-use crate::options::{address, capacity, group, max_inflight, port, workers};
+use crate::options::{address, capacity, group, max_inflight, port, until, workers};
 use crate::service::ServeOptions;
 use crate::serving::service_of;
 use crate::setup::setup_of;
@@ -97,7 +97,7 @@ fn command_named<'a>(
         .arg(group(alloc))
 }
 
-/// `serve` and its six options.
+/// `serve` and its seven options.
 fn serve_command<'a>(alloc: Global) -> Result<Command<'a>, AllocError>
     ensures { IfOk result (λ command. app_of command ≡ serve_command) }
 {
@@ -108,6 +108,7 @@ fn serve_command<'a>(alloc: Global) -> Result<Command<'a>, AllocError>
         .arg(port(alloc))?
         .arg(address(alloc))?
         .arg(workers(alloc))?
+        .arg(until(alloc))?
         .arg(capacity(alloc))?
         .arg(max_inflight(alloc))?
         .arg(group(alloc))

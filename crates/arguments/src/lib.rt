@@ -15,4 +15,4 @@ mod serving;
 mod setup;
 
 pub use command::{Request, arguments};
-pub use service::ServeOptions;
+pub use service::{ServeOptions, ServeUntil};

@@ -1,7 +1,7 @@
 //! The options of the commands.
 ghost use Rattle.std.specs.Prelude.{◌≡◌};
 ghost use Rattle.clap.specs.Words.{rule_of};
-ghost use Rattle.arguments.specs.Options.{address_option, capacity_option, group_option, max_inflight_option, port_option, workers_option};
+ghost use Rattle.arguments.specs.Options.{address_option, capacity_option, group_option, max_inflight_option, port_option, until_option, workers_option};
 
 use clap::{Arg, ArgAction, value_parser};
 use std::alloc::Global;
@@ -78,4 +78,17 @@ pub(crate) fn workers<'a>(alloc: Global) -> Arg<'a>
         .value_parser(value_parser!(u32).range(1..=64))
         .default_value("8")
         .help("How many threads serve connections, 1 to 64")
+}
+
+/// `--until WHEN`.
+pub(crate) fn until<'a>(alloc: Global) -> Arg<'a>
+    ensures { rule_of result ≡ until_option }
+{
+    Arg::new(alloc, "until")
+        .long("until")
+        .value_name("WHEN")
+        .default_value("stdin")
+        .help(
+            "stdin: serve until standard input has ended; killed: read nothing there, and serve until the process is killed",
+        )
 }

@@ -4,6 +4,15 @@ ghost use Rattle.std.specs.Prelude.{◌≤◌};
 use conn_rules::Setup;
 use std::net::Ipv4Addr;
 
+/// Until when a broker on TCP serves.
+#[derive(Clone, Copy, Debug, PartialEq, Eq)]
+pub enum ServeUntil {
+    /// Until standard input ends.
+    Stdin,
+    /// Until the process is killed; standard input is not read.
+    Killed,
+}
+
 /// What a broker on TCP begins with.
 #[derive(Drop)]
 pub struct ServeOptions {
@@ -13,6 +22,8 @@ pub struct ServeOptions {
     pub port: u16,
     /// How many workers it has, 1 to 64.
     pub workers: u8,
+    /// Until when it serves.
+    pub until: ServeUntil,
     /// What its groups begin with.
     pub setup: Setup,
     ghost few: { (1 ≤ workers) × (workers ≤ 64) },

@@ -1,14 +1,14 @@
 //! What a broker on TCP begins with, by the options of `serve`.
-ghost use Rattle.std.specs.Prelude.{◌≡◌, ◌⊎◌, ℕ, codes, IfOk, IfErr, MatchOption};
-ghost use Rattle.clap.specs.Words.{found_of, kind_of, rows_of};
+ghost use Rattle.std.specs.Prelude.{◌≡◌, ◌⊎◌, ℕ, codes, IfOk, IfErr, MatchOption, Some};
+ghost use Rattle.clap.specs.Words.{first_of, found_of, kind_of, rows_of};
 ghost use Rattle.clap.specs.declared.error.kind.ErrorKind.TheVariants as kinds;
 ghost use Rattle.arguments.specs.Options.{HasNumber};
-ghost use Rattle.arguments.specs.CommandLine.{IsServiceBy};
+ghost use Rattle.arguments.specs.CommandLine.{IsServiceBy, word_of};
 ghost use Rattle.arguments.specs.declared.service.ServeOptions.{ServeOptions as AnyService};
 
 use crate::command::wrong;
 use crate::groups::groups_of;
-use crate::service::ServeOptions;
+use crate::service::{ServeOptions, ServeUntil};
 use crate::setup::{capacity_of, limit_of};
 use clap::{ArgMatches, Error};
 use conn_rules::Setup;
@@ -31,11 +31,15 @@ pub(crate) fn service_of(alloc: Global, options: &ArgMatches) -> Result<ServeOpt
     let Some((port, workers, capacity, packets)) = numbers(options) else {
         return Err(wrong(alloc, "a number is out of its range")?);
     };
+    let Some(until) = until_of(options) else {
+        return Err(wrong(alloc, "--until is stdin or killed")?);
+    };
     match groups_of(alloc, options.get_strs("group").unwrap_or(&[]))? {
         Ok(groups) => Ok(ServeOptions {
             address,
             port: port as u16,
             workers: workers as u8,
+            until,
             setup: Setup {
                 capacity: capacity_of(capacity),
                 max_inflight: limit_of(packets),
@@ -43,6 +47,19 @@ pub(crate) fn service_of(alloc: Global, options: &ArgMatches) -> Result<ServeOpt
             },
         }),
         Err(refused) => Err(wrong(alloc, refused.text.as_str())?),
+    }
+}
+
+/// Until when it serves.
+fn until_of(options: &ArgMatches) -> Option<ServeUntil>
+    ensures { MatchOption result
+        ((service : AnyService) → ¬ IsServiceBy (rows_of (found_of options.now)) service)
+        (λ until. first_of (codes "until") (rows_of (found_of options.now)) ≡ Some (word_of until)) }
+{
+    match options.get_str("until")? {
+        "stdin" => Some(ServeUntil::Stdin),
+        "killed" => Some(ServeUntil::Killed),
+        _ => None,
     }
 }
 

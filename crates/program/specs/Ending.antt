@@ -1,10 +1,12 @@
 -- How the program ends: its status, and what then stands in its output and on its error output (profile).
-use Rattle.std.specs.Prelude.{◌≡◌, ◌⊎◌, ℕ, List, Option, Result, Ok, Err, IfOk, IfSome, string_bytes}
+use Rattle.std.specs.Prelude.{◌≡◌, ◌⊎◌, ℕ, List, Option, Result, Ok, Err, IfOk, IfSome, IsErr, string_bytes}
 use Rattle.std.specs.Io.KnownBytes.{Appends, IsAtEnd, Keeps}
 use Rattle.conn_rules.specs.declared.setup.Setup.{Setup}
 use Rattle.arguments.specs.declared.command.Request.{Request}
 use Rattle.arguments.specs.declared.command.Request.TheVariants.{Solo, Drive, Serve}
 use Rattle.arguments.specs.declared.service.ServeOptions.{ServeOptions}
+use Rattle.arguments.specs.declared.service.ServeUntil.{ServeUntil}
+use Rattle.arguments.specs.declared.service.ServeUntil.TheVariants.{Stdin, Killed}
 use Rattle.text_io.specs.declared.error.RunError.{RunError}
 use Rattle.text_io.specs.declared.error.RunError.TheVariants.{ReadFailed, TooManyReads, WriteFailed, Network, Memory, Unfinished, Line}
 use Rattle.text_io.specs.Status.{status_of, error_line}
@@ -60,16 +62,27 @@ abbrev pub WroteDrive : Setup → List ℕ → Result (Unit {0}) RunError → Op
 WroteDrive setup input = Wrote (IsDriveOutput setup input) (λ line. script_of input ≡ Err line)
 
 -- A broker was served at the port, with groups of the capacity, with the workers, the limit and the shares that were asked for: what it
--- wrote by how it ended is in the output. It ended with no error only where the input, of which this is left, had ended.
-pub record Served (service : ServeOptions) (ended : Result (Unit {0}) RunError) (left old new : Option (List ℕ)) : Type 0 where
-  pub written : IsServedAt service.port service.setup.capacity service.workers service.setup.max_inflight service.setup.groups ended old new
-  pub read : IfOk ended (λ done. IsAtEnd left)
+-- wrote by how it ended is in the output.
+abbrev pub IsServedFor : ServeOptions → Result (Unit {0}) RunError → Option (List ℕ) → Option (List ℕ) → Type 0
+IsServedFor service ended old new =
+    IsServedAt service.port service.setup.capacity service.workers service.setup.max_inflight service.setup.groups ended old new
+
+-- What a broker read of the input, of which this is left. Until standard input ends: it ended with no error only where that had ended. Until it
+-- is killed: nothing, and it did not end but with an error.
+abbrev pub HasRead : ServeUntil → Result (Unit {0}) RunError → Option (List ℕ) → Option (List ℕ) → Type 0
+HasRead Stdin ended input left = IfOk ended (λ done. IsAtEnd left)
+HasRead Killed ended input left = Keeps input left × IsErr ended
+
+-- a broker was served as was asked for
+pub record Served (service : ServeOptions) (ended : Result (Unit {0}) RunError) (input left old new : Option (List ℕ)) : Type 0 where
+  pub written : IsServedFor service ended old new
+  pub read : HasRead service.until ended input left
 
 -- what a command did, by how it ended: with this input, of which this is left, and the output before and after
 abbrev pub Did : Request → Result (Unit {0}) RunError → Option (List ℕ) → Option (List ℕ) → Option (List ℕ) → Option (List ℕ) → Type 0
 Did (Solo setup) ended input left old new = IfSome input (λ given. WroteSolo setup given ended old new)
 Did (Drive setup) ended input left old new = IfSome input (λ given. WroteDrive setup given ended old new)
-Did (Serve service) ended input left old new = Served service ended left old new
+Did (Serve service) ended input left old new = Served service ended input left old new
 
 -- A command came to its end, or to an error, which is told.
 pub record RunEnds (request : Request) (old new : Streams) (exit : Exit) : Type 0 where

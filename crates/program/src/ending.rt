@@ -1,11 +1,11 @@
 //! The words, what they ask for, and the status.
 ghost use Rattle.std.specs.Prelude.{◌≡◌, map, string_bytes, IfOk};
 ghost use Rattle.std.specs.Io.KnownBytes.{IsAtEnd};
-ghost use Rattle.tcp_server.specs.Serving.{IsServedAt};
-ghost use Rattle.program.specs.Ending.{Did, Ends, EndsAsAsked, Streams, Tells, status_at};
+ghost use Rattle.program.specs.Ending.{Did, Ends, EndsAsAsked, HasRead, IsServedFor, Tells, status_at};
 
 use crate::asking::{Asked, asked_by};
-use arguments::{Request, ServeOptions};
+use crate::endless::Endless;
+use arguments::{Request, ServeOptions, ServeUntil};
 use drive::drive_lines;
 use solo_output::solo;
 use std::alloc::Global;
@@ -32,7 +32,7 @@ pub struct Exit {
 }
 
 /// The program: does what its words ask for, its own name in front, and says how it ends. `serve` needs threads, sockets and a clock, and returns
-/// only once the reader has ended, or at an error, and all connections have ended.
+/// only once the reader has ended, or at an error, and all connections have ended; with `--until killed` it reads nothing, and returns at an error alone.
 ///
 /// | Status | |
 /// |---|---|
@@ -117,13 +117,31 @@ fn serve<H: Threads + Wait + Net + Clock + Sync, R: Read + Send, W: Write>(
     reader: &mut R,
     output: &mut W,
 ) -> Result<(), RunError>
-    ensures written { IsServedAt service.port service.setup.capacity service.workers service.setup.max_inflight service.setup.groups result (W.contents output.old) (W.contents output.new) }
+    ensures written { IsServedFor service result (W.contents output.old) (W.contents output.new) }
+    ensures read { HasRead service.until result (R.remaining reader.old) (R.remaining reader.new) }
+{
+    match service.until {
+        ServeUntil::Stdin => serve_reading(rt, alloc, service, reader, output),
+        ServeUntil::Killed => serve_reading(rt, alloc, service, &mut Endless { rt }, output),
+    }
+}
+
+/// Serves as was asked for, until this reader has ended.
+fn serve_reading<H: Threads + Wait + Net + Clock + Sync, R: Read + Send, W: Write>(
+    rt: &H,
+    alloc: Global,
+    service: ServeOptions,
+    reader: &mut R,
+    output: &mut W,
+) -> Result<(), RunError>
+    ensures written { IsServedFor service result (W.contents output.old) (W.contents output.new) }
     ensures read { IfOk result (λ _. IsAtEnd (R.remaining reader.new)) }
 {
     let ServeOptions {
         address,
         port,
         workers,
+        until: _,
         setup,
     } = service;
     serve_at(

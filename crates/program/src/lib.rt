@@ -7,6 +7,7 @@
 
 mod asking;
 mod ending;
+mod endless;
 
 pub use asking::{Asked, asked_by};
 pub use ending::{Exit, perform, run};

@@ -8,27 +8,35 @@ fn what_words_of_serve_ask_for(rt: HostRuntime) -> Result<(), Fail> {
     let rows = [
         (
             "share_broker serve --port 1883",
-            "serve 127.0.0.1:1883 8 1024 256",
+            "serve 127.0.0.1:1883 8 Stdin 1024 256",
         ),
         (
             "share_broker serve --port 0 --workers 1",
-            "serve 127.0.0.1:0 1 1024 256",
+            "serve 127.0.0.1:0 1 Stdin 1024 256",
         ),
         (
             "share_broker serve --port 65535 --address 0.0.0.0 --workers 64 --capacity 65536 --group g:job --group h:#",
-            "serve 0.0.0.0:65535 64 65536 256 $share/g/job $share/h/#",
+            "serve 0.0.0.0:65535 64 Stdin 65536 256 $share/g/job $share/h/#",
         ),
         (
             "share_broker serve --address=192.168.1.255 --port=7 --capacity=1",
-            "serve 192.168.1.255:7 8 1 256",
+            "serve 192.168.1.255:7 8 Stdin 1 256",
         ),
         (
             "share_broker serve --port 1 --max-inflight 256",
-            "serve 127.0.0.1:1 8 1024 256",
+            "serve 127.0.0.1:1 8 Stdin 1024 256",
         ),
         (
             "share_broker serve --max-inflight=2 --port 1 --group g:job",
-            "serve 127.0.0.1:1 8 1024 2 $share/g/job",
+            "serve 127.0.0.1:1 8 Stdin 1024 2 $share/g/job",
+        ),
+        (
+            "share_broker serve --port 1 --until stdin",
+            "serve 127.0.0.1:1 8 Stdin 1024 256",
+        ),
+        (
+            "share_broker serve --until=killed --port 1 --workers 2 --group g:job",
+            "serve 127.0.0.1:1 2 Killed 1024 256 $share/g/job",
         ),
         // faults
         ("share_broker serve", "2"),
@@ -47,6 +55,14 @@ fn what_words_of_serve_ask_for(rt: HostRuntime) -> Result<(), Fail> {
         ("share_broker serve --port 1 --address 1.2.3", "2"),
         ("share_broker serve --port 1 --address 1.2.3.256", "2"),
         ("share_broker serve --port 1 --address 1.2.3.04", "2"),
+        ("share_broker serve --port 1 --until", "2"),
+        ("share_broker serve --port 1 --until Stdin", "2"),
+        ("share_broker serve --port 1 --until stopped", "2"),
+        (
+            "share_broker serve --port 1 --until killed --until killed",
+            "2",
+        ),
+        ("share_broker drive --until killed", "2"),
         ("share_broker serve --port 1 --group job", "2"),
         (
             "share_broker serve --port 1 --group g:job --group g:job",

@@ -122,6 +122,8 @@ fn texts_are_shown(rt: HostRuntime) -> Result<(), Fail> {
         ("share_broker serve --help", "--port <P>"),
         ("share_broker help serve", "[default: 127.0.0.1]"),
         ("share_broker serve -h", "1 to 64 [default: 8]"),
+        ("share_broker serve --help", "--until <WHEN>"),
+        ("share_broker help serve", "[default: stdin]"),
         ("share_broker drive --help", "1 to 65536 [default: 1024]"),
         ("share_broker solo --help", "1 to 256 [default: 256]"),
     ];
@@ -156,6 +158,10 @@ fn wrong_words(rt: HostRuntime) -> Result<(), Fail> {
             "share_broker serve --port 0 --group a:1 --group g:job --group g:job",
             "'g:job' for '--group <NAME:FILTER>': the group is given twice",
         ),
+        (
+            "share_broker serve --port 0 --until stopped",
+            "--until is stdin or killed",
+        ),
         ("share_broker solo --capacity 0", "invalid value '0'"),
     ];
     for (line, text) in rows.iter() {
@@ -181,6 +187,19 @@ fn serving_ends(rt: HostRuntime) -> Result<(), Fail> {
         "\n$share/g/job accepted 0 acknowledged 0 refused 0 held 0 queued 0 returned 0 discarded 0\n";
     assert!(rt; has(&ended.output, report));
     assert_same(&rt, &ended.errors.len(), &0);
+    Ok(())
+}
+
+/// A broker that is to serve until it is killed ends where its address is not to be had, and has read nothing.
+#[test]
+fn serving_until_killed_fails(rt: HostRuntime) -> Result<(), Fail> {
+    let line = "share_broker serve --port 0 --address 203.0.113.1 --until killed";
+    let mut reader = CONNECTED;
+    let ended = ran(&rt, rt.alloc(), line, &mut reader)?;
+    assert_same(&rt, &ended.status, &3);
+    assert_same(&rt, &reader.len(), &CONNECTED.len());
+    assert_same(&rt, &ended.output.len(), &0);
+    assert_items(&rt, ended.errors.as_slice(), "device\n".as_bytes());
     Ok(())
 }
 

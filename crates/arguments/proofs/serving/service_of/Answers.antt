@@ -27,6 +27,7 @@ returns-in-Ok-clause-ok c =
       address = read.2;
       port = c.in-Some-numbers.ensures.0;
       workers = c.in-Some-numbers.ensures.1;
+      until = c.in-Some-until_of.ensures;
       capacity = subst (HasNumber (codes "capacity") 1 65536 (rows_of found)) (sym c.capacity_of.ensures) c.in-Some-numbers.ensures.2;
       max_inflight = subst (HasNumber (codes "max-inflight") 1 256 (rows_of found)) (sym c.limit_of.ensures) c.in-Some-numbers.ensures.3;
       groups = subst (λ texts. AddsEach [] texts c.in-Ok.groups) pairs all;
