@@ -2,13 +2,12 @@
 use Rattle.std.proofs.Common.{◌≡◌, ℕ, List, [], ◌∷◌, ◌++◌, reverse, Option, Some, None, Result, Ok, Err, ⊎_elim, inl, inr, refl, sym, ap, subst, ◌∙◌, append_assoc, append-nil}
 use Rattle.std.proofs.lemmas.List.{map-append}
 use Rattle.std.proofs.lemmas.List.Elements.{filter_map-append}
-use Rattle.group_jobs.specs.declared.message.Message.{Message}
 use Rattle.group_jobs.specs.Stamps.{Held}
 use Rattle.conn_supply.specs.declared.supply.NoMemory.{NoMemory}
 use Rattle.conn_supply.specs.SupplyCalls.{SupplyCall}
 use Rattle.conn_engine.specs.declared.input.Input.{Input}
 use Rattle.conn_engine.specs.declared.input.Input.TheVariants as inputs
-use Rattle.conn_laws.specs.Calls.{hand_out_of, Outcome, if_sent, sent_of, messages_of, fresh_messages, CallsLead}
+use Rattle.conn_laws.specs.Calls.{hand_out_of, Outcome, if_sent, sent_of, Content, content_of, contents_of, fresh_contents, CallsLead}
 use Rattle.conn_laws.proofs.Calling.{joins}
 use Rattle.conn_laws.proofs.HandingOut.{hands_of_both}
 use Rattle.conn_laws.proofs.Stepping.{stepped}
@@ -21,12 +20,12 @@ use Rattle.client_table.specs.Streams.{fed, Reads, FailsToReadOne, FailsToRead, 
 pub fresh_sent-append : (said more : List StepOutput) → fresh_sent (said ++ more) ≡ fresh_sent said ++ fresh_sent more
 fresh_sent-append [] more = refl
 fresh_sent-append (first ∷ others) more =
-    ap (λ (later : List Message). fresh_messages first.packets ++ later) (fresh_sent-append others more) ∙ sym (append_assoc (fresh_messages first.packets) (fresh_sent others) (fresh_sent more))
+    ap (λ (later : List Content). fresh_contents first.packets ++ later) (fresh_sent-append others more) ∙ sym (append_assoc (fresh_contents first.packets) (fresh_sent others) (fresh_sent more))
 
--- the messages that are sent of these outcomes, and then of those
-pub messages_of_both : {P : Type 0} (these those : List (Outcome P)) → messages_of (sent_of (these ++ those)) ≡ messages_of (sent_of these) ++ messages_of (sent_of those)
-messages_of_both {P} these those =
-    ap messages_of (filter_map-append (λ (o : Outcome P). if_sent o.sent o.hand_out) these those) ∙ map-append (λ (h : P × Held). h.1.message) (sent_of these) (sent_of those)
+-- what is sent of these outcomes, and then of those
+pub contents_of_both : {P : Type 0} (these those : List (Outcome P)) → contents_of (sent_of (these ++ those)) ≡ contents_of (sent_of these) ++ contents_of (sent_of those)
+contents_of_both {P} these those =
+    ap contents_of (filter_map-append (λ (o : Outcome P). if_sent o.sent o.hand_out) these those) ∙ map-append (λ (h : P × Held). content_of h.1.message) (sent_of these) (sent_of those)
 
 module _ {S P : Type 0} (call : S → SupplyCall P → S → Type 0) (slot_of : P → ℕ) where
   none : (old new : S) → new ≡ old → CallsLead call old new
@@ -48,7 +47,7 @@ module _ {S P : Type 0} (call : S → SupplyCall P → S → Type 0) (slot_of : 
         handed_out =
             filter_map-append hand_out_of these.supply_calls those.supply_calls ∙ (λ i. these.handed_out i ++ those.handed_out i)
             ∙ sym (hands_of_both these.outcomes those.outcomes);
-        told = fresh_sent-append said more ∙ (λ i. these.told i ++ those.told i) ∙ sym (messages_of_both these.outcomes those.outcomes);
+        told = fresh_sent-append said more ∙ (λ i. these.told i ++ those.told i) ∙ sym (contents_of_both these.outcomes those.outcomes);
       }
 
   leads : (old new : S) (said : List StepOutput) → Delivers call old said new → CallsLead call old new
@@ -58,7 +57,7 @@ module _ {S P : Type 0} (call : S → SupplyCall P → S → Type 0) (slot_of : 
       → Delivers call old (said ∷ []) new
   moves old new client after now input said moved =
       let calls = stepped call slot_of old new client.conn.number (moment_of client now) client.conn.phase after.conn.phase input said.packets said.next moved.stepped in
-      record { supply_calls = calls.supply_calls; made = calls.made; outcomes = calls.outcomes; handed_out = calls.handed_out; told = append-nil (fresh_messages said.packets) ∙ calls.hands }
+      record { supply_calls = calls.supply_calls; made = calls.made; outcomes = calls.outcomes; handed_out = calls.handed_out; told = append-nil (fresh_contents said.packets) ∙ calls.hands }
 
   fails_to_move : (old new : S) (client after : ClientState P) (now : ℕ) (input : Input) → ClientFailsToStep call slot_of old client now input after new → CallsLead call old new
   fails_to_move old new client after now input fails =

@@ -1,14 +1,13 @@
 -- What is said to clients, and what was handed out for it.
 use Rattle.std.specs.Prelude.{◌≡◌, List, [], ◌∷◌, ◌++◌}
-use Rattle.group_jobs.specs.declared.message.Message.{Message}
 use Rattle.conn_supply.specs.SupplyCalls.{SupplyCall}
-use Rattle.conn_laws.specs.Calls.{handed, Outcome, hand_outs_of, sent_of, messages_of, fresh_messages, MakesAll}
+use Rattle.conn_laws.specs.Calls.{handed, Outcome, hand_outs_of, sent_of, Content, contents_of, fresh_contents, MakesAll}
 use Rattle.client_table.specs.Clients.{StepOutput}
 
--- the messages that come to clients for the first time, in the order in which they are said
-abbrev pub fresh_sent : List StepOutput → List Message
+-- what comes to clients for the first time, in the order in which they are said
+abbrev pub fresh_sent : List StepOutput → List Content
 fresh_sent [] = []
-fresh_sent (said ∷ others) = fresh_messages said.packets ++ fresh_sent others
+fresh_sent (said ∷ others) = fresh_contents said.packets ++ fresh_sent others
 
 -- calls led from the one to the other, and what they handed out is what was said for the first time, but for what was discarded
 pub record Delivers {S P : Type 0} (call : S → SupplyCall P → S → Type 0) (old : S) (said : List StepOutput) (new : S) : Type 0 where
@@ -16,4 +15,4 @@ pub record Delivers {S P : Type 0} (call : S → SupplyCall P → S → Type 0) 
   pub made : MakesAll call old supply_calls new
   pub outcomes : List (Outcome P)
   pub handed_out : handed supply_calls ≡ hand_outs_of outcomes
-  pub told : fresh_sent said ≡ messages_of (sent_of outcomes)
+  pub told : fresh_sent said ≡ contents_of (sent_of outcomes)

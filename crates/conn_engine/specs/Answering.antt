@@ -46,28 +46,28 @@ Disconnects connected None connected' reply = (connected' ≡ connected) × (rep
 Disconnects connected (Some seconds) connected' reply = DisconnectsIf (is_given_expiry seconds connected.terms) connected seconds connected' reply
 
 module _ {S P : Type 0} (call : S → SupplyCall P → S → Type 0) (slot_of : P → ℕ) where
-  -- a packet of the connection with this number. What a client has no business to send, a second CONNECT among it, is a Protocol Error (4.13)
-  abbrev pub Answers : S → ℕ → ConnectedClient P → Packet → ConnectedClient P → Reply → S → Type 0
-  Answers old number connected (packets.Publish publish) connected' reply new = Publishes call old number publish reply new × (connected' ≡ connected)
-  Answers old number connected (packets.Puback puback) connected' reply new =
+  -- a packet of the connection with this number that came at this moment. What a client has no business to send, a second CONNECT among it, is a Protocol Error (4.13)
+  abbrev pub Answers : S → ℕ → ConnectedClient P → ℕ → Packet → ConnectedClient P → Reply → S → Type 0
+  Answers old number connected now (packets.Publish publish) connected' reply new = Publishes call old number now publish reply new × (connected' ≡ connected)
+  Answers old number connected now (packets.Puback puback) connected' reply new =
       (session : Session Held P) × Acknowledges call old connected.session puback.packet_identifier puback.reason_code session new
       × (connected' ≡ with_session connected session) × (reply ≡ going_on None)
-  Answers old number connected (packets.Subscribe subscribe) connected' reply new =
+  Answers old number connected now (packets.Subscribe subscribe) connected' reply new =
       (membership : Membership P) × (subscription : Option ℕ)
       × Subscribes call slot_of old connected.session.membership connected.session.subscription subscribe reply membership subscription new
       × (connected' ≡ subscribing connected membership subscription)
-  Answers old number connected (packets.Unsubscribe unsubscribe) connected' reply new =
+  Answers old number connected now (packets.Unsubscribe unsubscribe) connected' reply new =
       (membership : Membership P) × Unsubscribes call slot_of old connected.session.membership unsubscribe reply membership new
       × (connected' ≡ joining connected membership)
-  Answers old number connected packets.Pingreq connected' reply new = (connected' ≡ connected) × (reply ≡ going_on (Some packets.Pingresp)) × (new ≡ old)
-  Answers old number connected (packets.Disconnect disconnect) connected' reply new = Disconnects connected disconnect.properties.session_expiry_interval connected' reply × (new ≡ old)
-  Answers old number connected other connected' reply new = (connected' ≡ connected) × (reply ≡ closing_with 0x82) × (new ≡ old)
+  Answers old number connected now packets.Pingreq connected' reply new = (connected' ≡ connected) × (reply ≡ going_on (Some packets.Pingresp)) × (new ≡ old)
+  Answers old number connected now (packets.Disconnect disconnect) connected' reply new = Disconnects connected disconnect.properties.session_expiry_interval connected' reply × (new ≡ old)
+  Answers old number connected now other connected' reply new = (connected' ≡ connected) × (reply ≡ closing_with 0x82) × (new ≡ old)
 
   -- where an allocation failed: a PUBLISH was offered to some groups, some entries of a SUBSCRIBE were answered, and nothing else was done
-  abbrev pub FailsToAnswer : S → ℕ → ConnectedClient P → Packet → ConnectedClient P → S → Type 0
-  FailsToAnswer old number connected (packets.Publish publish) connected' new = IsCutShort call old number publish new × (connected' ≡ connected)
-  FailsToAnswer old number connected (packets.Subscribe subscribe) connected' new =
+  abbrev pub FailsToAnswer : S → ℕ → ConnectedClient P → ℕ → Packet → ConnectedClient P → S → Type 0
+  FailsToAnswer old number connected now (packets.Publish publish) connected' new = IsCutShort call old number now publish new × (connected' ≡ connected)
+  FailsToAnswer old number connected now (packets.Subscribe subscribe) connected' new =
       (membership : Membership P) × AnswersSome call slot_of old connected.session.membership subscribe.subscriptions membership new
       × (connected' ≡ joining connected membership)
-  FailsToAnswer old number connected (packets.Unsubscribe unsubscribe) connected' new = (connected' ≡ connected) × (new ≡ old)
-  FailsToAnswer old number connected other connected' new = ⊥
+  FailsToAnswer old number connected now (packets.Unsubscribe unsubscribe) connected' new = (connected' ≡ connected) × (new ≡ old)
+  FailsToAnswer old number connected now other connected' new = ⊥

@@ -13,7 +13,7 @@ use Rattle.session_desk.specs.declared.attached.Attached.TheVariants.{New, Resum
 use Rattle.session_desk.specs.declared.error.DeskError.{DeskError}
 use Rattle.session_desk.specs.declared.error.DeskError.TheVariants as errors
 use Rattle.session_desk.specs.declared.session.Session.{Session}
-use Rattle.conn_rules.specs.HandOuts.{is_big}
+use Rattle.conn_rules.specs.HandOuts.{is_message_too_long}
 use Rattle.conn_rules.specs.Packets.{accepting, refusing}
 use Rattle.conn_rules.specs.declared.terms.Terms.{Terms}
 use Rattle.conn_supply.specs.declared.reply.Reply.{Reply}
@@ -50,8 +50,8 @@ assigned [] who = name_if (is_text who.client) who.client
 assigned (byte ∷ bytes) who = None
 
 -- a session holds a message whose PUBLISH, as it was sent first, is longer than a client of this Maximum Packet Size takes (3.1.2.11.4)
-abbrev pub holds_big : Option ℕ → Contents Held → Bool
-holds_big maximum window = list_any (λ entry. is_big maximum entry.1.subscription entry.1.message) (held_of window)
+abbrev pub holds_message_too_long : Option ℕ → Contents Held → Bool
+holds_message_too_long maximum window = list_any (λ entry. is_message_too_long maximum entry.1.subscription entry.1.message) (held_of window)
 
 -- the connection is refused, and closed (3.2.2.2)
 pub record IsRefused {P : Type 0} (refusal : ConnectRefusal) (phase : ConnPhase P) (reply : Reply) : Type 0 where
@@ -83,7 +83,7 @@ module _ {S P : Type 0} (call : S → SupplyCall P → S → Type 0) where
   abbrev pub AttachedAs : S → ConnectRequest → ℕ → Result (Attached Held P) DeskError → ConnPhase P → Reply → S → Type 0
   AttachedAs old request ticks (Ok (New session ended)) phase reply new = RetiresEarlier old ended new × Accepts request false session phase reply
   AttachedAs old request ticks (Ok (Resumed session)) phase reply new =
-      ResumesAs (holds_big request.terms.maximum_packet_size session.window) old request session phase reply new
+      ResumesAs (holds_message_too_long request.terms.maximum_packet_size session.window) old request session phase reply new
   AttachedAs old request ticks (Ok (Replace holder)) phase reply new = WaitsAs (nat_lt ticks most_ticks) request ticks phase reply × (new ≡ old)
   AttachedAs old request ticks (Ok Busy) phase reply new = IsRefused refusals.ServerBusy phase reply × (new ≡ old)
   AttachedAs old request ticks (Err errors.Full) phase reply new = IsRefused refusals.ServerBusy phase reply × (new ≡ old)

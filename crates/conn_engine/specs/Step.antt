@@ -45,9 +45,9 @@ request_of max_inflight connect now =
 abbrev pub hearing : {P : Type 0} → ConnectedClient P → ℕ → ConnectedClient P
 hearing connected now = record { session = connected.session; terms = connected.terms; heard = max connected.heard now }
 
--- what a client is sent its messages under: its subscription's identifier (3.3.2.3.8), and its Maximum Packet Size (3.1.2.11.4)
-abbrev pub hand_out_terms : {P : Type 0} → ConnectedClient P → HandOutTerms
-hand_out_terms connected = record { subscription = connected.session.subscription; maximum_packet_size = connected.terms.maximum_packet_size }
+-- what a client is sent its messages under at this moment: its subscription's identifier (3.3.2.3.8), and its Maximum Packet Size (3.1.2.11.4)
+abbrev pub hand_out_terms : {P : Type 0} → ConnectedClient P → ℕ → HandOutTerms
+hand_out_terms connected now = record { at = now; subscription = connected.session.subscription; maximum_packet_size = connected.terms.maximum_packet_size }
 
 -- the session of a connection has this membership and this window
 abbrev pub after_hand_out : {P : Type 0} → ConnectedClient P → Membership P → Contents Held → ConnectedClient P
@@ -114,7 +114,7 @@ module _ {S P : Type 0} (call : S → SupplyCall P → S → Type 0) (slot_of : 
   -- a packet of a connection whose session nobody else asked for
   abbrev pub AnswersPacket : S → ℕ → ConnectedClient P → ℕ → Packet → ConnPhase P → Reply → S → Type 0
   AnswersPacket old number connected now packet phase reply new =
-      (after : ConnectedClient P) × (mid : S) × Answers call slot_of old number (hearing connected now) packet after reply mid × Concludes mid after now reply.next phase new
+      (after : ConnectedClient P) × (mid : S) × Answers call slot_of old number (hearing connected now) now packet after reply mid × Concludes mid after now reply.next phase new
 
   -- the client has been silent for too long, or not (3.1.2.10)
   abbrev pub IsHeard : Bool → S → ConnectedClient P → ℕ → ConnPhase P → Reply → S → Type 0
@@ -161,15 +161,15 @@ module _ {S P : Type 0} (call : S → SupplyCall P → S → Type 0) (slot_of : 
       (reply ≡ closing_with 0x8B) × call old (ParkAsIs (down connected.session)) new × (phase ≡ Ended)
   Reacts old number Ended now input phase reply new = IsClosed phase reply × (new ≡ old)
 
-  -- what is handed out after the reply, where the connection goes on with its session
-  abbrev pub Hands : S → ConnPhase P → List Packet → ConnPhase P → S → Type 0
-  Hands old (Connected connected) sent phase new =
+  -- what is handed out at this moment, after the reply, where the connection goes on with its session
+  abbrev pub Hands : S → ConnPhase P → ℕ → List Packet → ConnPhase P → S → Type 0
+  Hands old (Connected connected) now sent phase new =
       (membership : Membership P) × (window : Contents Held)
-      × HandsOut call (hand_out_terms connected) old connected.session.membership connected.session.window sent membership window new
+      × HandsOut call (hand_out_terms connected now) old connected.session.membership connected.session.window sent membership window new
       × (phase ≡ Connected (after_hand_out connected membership window))
-  Hands old (Unconnected opened) sent phase new = (sent ≡ []) × (phase ≡ Unconnected opened) × (new ≡ old)
-  Hands old (Waiting request ticks) sent phase new = (sent ≡ []) × (phase ≡ Waiting request ticks) × (new ≡ old)
-  Hands old Ended sent phase new = (sent ≡ []) × (phase ≡ Ended) × (new ≡ old)
+  Hands old (Unconnected opened) now sent phase new = (sent ≡ []) × (phase ≡ Unconnected opened) × (new ≡ old)
+  Hands old (Waiting request ticks) now sent phase new = (sent ≡ []) × (phase ≡ Waiting request ticks) × (new ≡ old)
+  Hands old Ended now sent phase new = (sent ≡ []) × (phase ≡ Ended) × (new ≡ old)
 
   -- one step: the packets of the reply, and then those that are handed out
   pub record Steps (old : S) (number : ℕ) (phase : ConnPhase P) (now : ℕ) (input : Input) (packets : List Packet) (next : Then) (phase' : ConnPhase P) (new : S) : Type 0 where
@@ -178,7 +178,7 @@ module _ {S P : Type 0} (call : S → SupplyCall P → S → Type 0) (slot_of : 
     pub mid : S
     pub sent : List Packet
     pub reacts : Reacts old number phase now input between reply mid
-    pub hands : Hands mid between sent phase' new
+    pub hands : Hands mid between now sent phase' new
     pub written : packets ≡ option_to_list reply.packet ++ sent
     pub followed : next ≡ reply.next
 
@@ -207,7 +207,7 @@ module _ {S P : Type 0} (call : S → SupplyCall P → S → Type 0) (slot_of : 
   -- where an allocation failed for the answer to a packet
   abbrev pub FailsOnPacket : S → ℕ → ConnectedClient P → ℕ → Packet → S → Type 0
   FailsOnPacket old number connected now packet new =
-      (after : ConnectedClient P) × (mid : S) × FailsToAnswer call slot_of old number (hearing connected now) packet after mid × Parts call mid after.session now new
+      (after : ConnectedClient P) × (mid : S) × FailsToAnswer call slot_of old number (hearing connected now) now packet after mid × Parts call mid after.session now new
 
   -- where an allocation failed for the first packet
   abbrev pub FailsFirst : S → ℕ → ℕ → ℕ → Packet → S → Type 0
@@ -226,7 +226,7 @@ module _ {S P : Type 0} (call : S → SupplyCall P → S → Type 0) (slot_of : 
   abbrev pub HandsLess : S → ConnPhase P → ℕ → S → Type 0
   HandsLess old (Connected connected) now new =
       (membership : Membership P) × (window : Contents Held) × (mid : S)
-      × HandsSome call (hand_out_terms connected) old connected.session.membership connected.session.window membership window mid
+      × HandsSome call (hand_out_terms connected now) old connected.session.membership connected.session.window membership window mid
       × Parts call mid (after_hand_out connected membership window).session now new
   HandsLess old (Unconnected opened) now new = ⊥
   HandsLess old (Waiting request ticks) now new = ⊥

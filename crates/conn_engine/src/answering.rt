@@ -11,7 +11,7 @@ use conn_supply::{
 use mqtt_packet::{Packet, ReasonCode, Subscribe, Unsubscribe};
 use std::alloc::Global;
 
-/// Answers a packet of the connection with this number, whose client has its session.
+/// Answers a packet of the connection with this number, whose client has its session, and that came at this moment.
 ///
 /// # Errors
 ///
@@ -21,18 +21,19 @@ pub(crate) fn answer<P: HoldingPlace, S: Supply<P>>(
     alloc: Global,
     number: u16,
     connected: &mut ConnectedClient<P>,
+    now: u64,
     packet: Packet,
 ) -> Result<Reply, NoMemory>
     requires sound { IsSoundSession P.has_out connected.old.session }
     requires visiting { S.visiting supply.old ≡ true }
     ensures answered { MatchResult result
-        (λ reply. Answers S.call P.slot_of supply.old number connected.old packet connected.new reply supply.new)
-        (λ _. FailsToAnswer S.call P.slot_of supply.old number connected.old packet connected.new supply.new) }
+        (λ reply. Answers S.call P.slot_of supply.old number connected.old now packet connected.new reply supply.new)
+        (λ _. FailsToAnswer S.call P.slot_of supply.old number connected.old now packet connected.new supply.new) }
     ensures sound { IsSoundSession P.has_out connected.new.session }
     ensures visiting { S.visiting supply.new ≡ S.visiting supply.old }
 {
     match packet {
-        Packet::Publish(packet) => publish(supply, alloc, number, packet),
+        Packet::Publish(packet) => publish(supply, alloc, number, now, packet),
         Packet::Puback(packet) => {
             let (identifier, code) = (packet.packet_identifier, packet.reason_code);
             drop(packet);
@@ -63,8 +64,8 @@ fn join<P: HoldingPlace, S: Supply<P>>(
 ) -> Result<Reply, NoMemory>
     requires { IsSoundSession P.has_out connected.old.session }
     ensures answered { MatchResult result
-        (λ reply. Answers S.call P.slot_of supply.old 0 connected.old (packets.Subscribe packet) connected.new reply supply.new)
-        (λ _. FailsToAnswer S.call P.slot_of supply.old 0 connected.old (packets.Subscribe packet) connected.new supply.new) }
+        (λ reply. Answers S.call P.slot_of supply.old 0 connected.old 0 (packets.Subscribe packet) connected.new reply supply.new)
+        (λ _. FailsToAnswer S.call P.slot_of supply.old 0 connected.old 0 (packets.Subscribe packet) connected.new supply.new) }
     ensures sound { IsSoundSession P.has_out connected.new.session }
     ensures visiting { S.visiting supply.new ≡ S.visiting supply.old }
 {
@@ -89,8 +90,8 @@ fn leave<P: HoldingPlace, S: Supply<P>>(
 ) -> Result<Reply, NoMemory>
     requires { IsSoundSession P.has_out connected.old.session }
     ensures answered { MatchResult result
-        (λ reply. Answers S.call P.slot_of supply.old 0 connected.old (packets.Unsubscribe packet) connected.new reply supply.new)
-        (λ _. FailsToAnswer S.call P.slot_of supply.old 0 connected.old (packets.Unsubscribe packet) connected.new supply.new) }
+        (λ reply. Answers S.call P.slot_of supply.old 0 connected.old 0 (packets.Unsubscribe packet) connected.new reply supply.new)
+        (λ _. FailsToAnswer S.call P.slot_of supply.old 0 connected.old 0 (packets.Unsubscribe packet) connected.new supply.new) }
     ensures sound { IsSoundSession P.has_out connected.new.session }
     ensures visiting { S.visiting supply.new ≡ S.visiting supply.old }
 {

@@ -199,7 +199,7 @@ fn write(reply: Reply, packets: &mut Vec<Packet>) -> Then
     next
 }
 
-/// Hands out what is due to a connection with this phase.
+/// Hands out what is due to a connection with this phase at this moment.
 fn hand<P: HoldingPlace, S: Supply<P>>(
     supply: &mut S,
     number: u16,
@@ -210,7 +210,7 @@ fn hand<P: HoldingPlace, S: Supply<P>>(
     requires sound { IsSoundPhase P.has_out phase.old }
     requires visiting { IsConnected phase.old → S.visiting supply.old ≡ true }
     ensures handed { MatchResult result
-        (λ _. (sent : List Packet) × (packets.new.items ≡ packets.old.items ++ sent) × Hands S.call P.slot_of supply.old phase.old sent phase.new supply.new)
+        (λ _. (sent : List Packet) × (packets.new.items ≡ packets.old.items ++ sent) × Hands S.call P.slot_of supply.old phase.old now sent phase.new supply.new)
         (λ _. (phase.new ≡ phases.Ended) × HandsLess S.call P.slot_of supply.old phase.old now supply.new) }
     ensures sound { IsSoundPhase P.has_out phase.new }
     ensures visiting { S.visiting supply.new ≡ S.visiting supply.old }
@@ -218,7 +218,7 @@ fn hand<P: HoldingPlace, S: Supply<P>>(
     let ConnPhase::Connected(connected) = phase else {
         return Ok(());
     };
-    match hand_to(supply, connected, packets) {
+    match hand_to(supply, connected, now, packets) {
         Ok(()) => Ok(()),
         Err(NoMemory) => {
             give_up(supply, number, phase, now);
@@ -227,23 +227,24 @@ fn hand<P: HoldingPlace, S: Supply<P>>(
     }
 }
 
-/// Hands out what is due to a client that has its session.
+/// Hands out what is due at this moment to a client that has its session.
 fn hand_to<P: HoldingPlace, S: Supply<P>>(
     supply: &mut S,
     connected: &mut ConnectedClient<P>,
+    now: u64,
     packets: &mut Vec<Packet>,
 ) -> Result<(), NoMemory>
     requires sound { IsSoundSession P.has_out connected.old.session }
     requires visiting { S.visiting supply.old ≡ true }
     ensures handed { MatchResult result
         (λ _. (sent : List Packet) × (packets.new.items ≡ packets.old.items ++ sent)
-        × Hands S.call P.slot_of supply.old (phases.Connected connected.old) sent (phases.Connected connected.new) supply.new)
-        (λ _. HandsSome S.call (hand_out_terms connected.old) supply.old connected.old.session.membership connected.old.session.window connected.new.session.membership connected.new.session.window supply.new
+        × Hands S.call P.slot_of supply.old (phases.Connected connected.old) now sent (phases.Connected connected.new) supply.new)
+        (λ _. HandsSome S.call (hand_out_terms connected.old now) supply.old connected.old.session.membership connected.old.session.window connected.new.session.membership connected.new.session.window supply.new
         × (connected.new ≡ after_hand_out connected.old connected.new.session.membership connected.new.session.window)) }
     ensures sound { IsSoundSession P.has_out connected.new.session }
     ensures visiting { S.visiting supply.new ≡ S.visiting supply.old }
 {
-    let terms = connected.hand_out_terms();
+    let terms = connected.hand_out_terms(now);
     let session = &mut connected.session;
     hand_out(
         supply,

@@ -2,21 +2,21 @@
 ghost use Rattle.std.specs.Prelude.{◌≡◌, ◌<◌, ◌≤◌, ◌↔◌, ℕ, nat_lt, length, slice_get, Some, IfOk, IfSome, IsOk, IsTrue, MatchResult};
 ghost use Rattle.group_jobs.specs.Stamps.{Held};
 ghost use Rattle.member_window.specs.Contents.{held_of};
-ghost use Rattle.conn_rules.specs.HandOuts.{is_big};
+ghost use Rattle.conn_rules.specs.HandOuts.{is_message_too_long};
 ghost use Rattle.conn_supply.specs.Holding.{IsOutAtPlace};
 ghost use Rattle.conn_supply.specs.Ready.{IsSoundSession};
-ghost use Rattle.conn_engine.specs.Connecting.{opened, assigned, holds_big, IsRefused, Accepts, RetiresEarlier, ResumesAs, Attaches, FailsToAttach, most_ticks, WaitsAs, TriesAgain, FailsAgain};
+ghost use Rattle.conn_engine.specs.Connecting.{opened, assigned, holds_message_too_long, IsRefused, Accepts, RetiresEarlier, ResumesAs, Attaches, FailsToAttach, most_ticks, WaitsAs, TriesAgain, FailsAgain};
 ghost use Rattle.conn_engine.specs.Ending.{Parts};
 ghost use Rattle.conn_engine.specs.Phases.{IsSoundPhase, IsWaiting};
 ghost use Rattle.conn_engine.specs.declared.phase.ConnPhase.TheVariants.{Ended};
 
 use crate::ending::{part, part_as_is, retire};
 use crate::phase::{ConnPhase, ConnectRequest, ConnectedClient};
-use conn_rules::{Terms, accepting, is_big, refusing};
+use conn_rules::{Terms, accepting, is_message_too_long, refusing};
 use conn_supply::{HoldingPlace, NoMemory, Reply, Supply};
 use group_jobs::Envelope;
 use member_window::Window;
-use mqtt_packet::{ConnectRefusal, MaximumPacketSize, Text};
+use mqtt_packet::{ConnectRefusal, Text};
 use session_desk::{Attached, DeskError, Identity, Session};
 
 /// For how many Ticks a connection waits for a session.
@@ -143,12 +143,12 @@ fn resume<P: HoldingPlace, S: Supply<P>>(
 ) -> (ConnPhase<P>, Result<Reply, NoMemory>)
     requires { IsSoundSession P.has_out session }
     ensures answered { MatchResult result.1
-        (λ reply. ResumesAs S.call (holds_big request.terms.maximum_packet_size session.window) supply.old request session result.0 reply supply.new)
+        (λ reply. ResumesAs S.call (holds_message_too_long request.terms.maximum_packet_size session.window) supply.old request session result.0 reply supply.new)
         (λ _. (result.0 ≡ Ended) × Parts S.call supply.old (opened session request.terms) now supply.new) }
     ensures sound { IsSoundPhase P.has_out result.0 }
     ensures visiting { S.visiting supply.new ≡ S.visiting supply.old }
 {
-    match holds_big(&session.window, &request.terms) {
+    match holds_message_too_long(&session.window, &request.terms) {
         Ok(true) => {
             part_as_is(supply, session);
             refuse(ConnectRefusal::ImplementationSpecificError)
@@ -163,23 +163,23 @@ fn resume<P: HoldingPlace, S: Supply<P>>(
 }
 
 /// Whether a window holds a message whose PUBLISH, as it was sent first, is longer than a client of these terms takes (section 3.1.2.11.4).
-fn holds_big(window: &Window<Envelope>, terms: &Terms) -> Result<bool, NoMemory>
-    ensures { IfOk result (λ big. big ≡ holds_big terms.now.maximum_packet_size window.now) }
+fn holds_message_too_long(window: &Window<Envelope>, terms: &Terms) -> Result<bool, NoMemory>
+    ensures { IfOk result (λ big. big ≡ holds_message_too_long terms.now.maximum_packet_size window.now) }
 {
     'held: for place in 0..window.len() {
-        if is_big_at(window, place, terms)? {
+        if is_too_long_at(window, place, terms)? {
             return Ok(true);
         }
     }
     Ok(false)
 }
 
-/// Whether the message at this place of a window is one.
-fn is_big_at(window: &Window<Envelope>, place: usize, terms: &Terms) -> Result<bool, NoMemory>
-    ensures { IfOk result (λ big. (entry : ℕ × Held) → slice_get (held_of window.now) place ≡ Some entry → big ≡ is_big terms.now.maximum_packet_size entry.1.subscription entry.1.message) }
+/// Whether the message at this place of a window is too long for a client of these terms; not where there is none.
+fn is_too_long_at(window: &Window<Envelope>, place: usize, terms: &Terms) -> Result<bool, NoMemory>
+    ensures { IfOk result (λ big. (entry : ℕ × Held) → slice_get (held_of window.now) place ≡ Some entry → big ≡ is_message_too_long terms.now.maximum_packet_size entry.1.subscription entry.1.message) }
 {
     match window.get(place) {
-        Some((_, envelope)) => Ok(is_big(
+        Some((_, envelope)) => Ok(is_message_too_long(
             envelope.message(),
             envelope.subscription(),
             terms.maximum_packet_size,

@@ -36,11 +36,12 @@ pub(crate) struct ConnectedClient<P> {
 }
 
 impl<P> ConnectedClient<P> {
-    /// What the client is sent its messages under.
-    pub(crate) fn hand_out_terms(&self) -> HandOutTerms
-        ensures { result ≡ hand_out_terms self.now }
+    /// What the client is sent its messages under at this moment, in milliseconds.
+    pub(crate) fn hand_out_terms(&self, now: u64) -> HandOutTerms
+        ensures { result ≡ hand_out_terms self.now now }
     {
         HandOutTerms {
+            at: now,
             subscription: self.session.subscription,
             maximum_packet_size: self.terms.maximum_packet_size,
         }

@@ -344,7 +344,7 @@ fn answer_packet<P: HoldingPlace, S: Supply<P>>(
         unreachable!()
     };
     connected.heard = connected.heard.max(now);
-    let replied = answer(supply, alloc, number, connected, packet);
+    let replied = answer(supply, alloc, number, connected, now, packet);
     if !goes_on(&replied) {
         give_up(supply, number, phase, now);
     }

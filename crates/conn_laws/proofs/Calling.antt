@@ -21,7 +21,7 @@ use Rattle.conn_supply.specs.HandOuts.{IsRefused, IsCutShort, TakesOne, TakesSom
 use Rattle.conn_supply.specs.Subscribing.{AnswersSome, SubscribesAs, UnsubscribesAs}
 use Rattle.conn_engine.specs.declared.phase.ConnectRequest.{ConnectRequest}
 use Rattle.conn_engine.specs.declared.phase.ConnPhase.{ConnPhase}
-use Rattle.conn_engine.specs.Connecting.{opened, holds_big, most_ticks, RetiresEarlier, WaitsAs, ResumesAs, AttachedAs, Attaches, FailsWith, FailsToAttach, TriesAgain, FailsAgain}
+use Rattle.conn_engine.specs.Connecting.{opened, holds_message_too_long, most_ticks, RetiresEarlier, WaitsAs, ResumesAs, AttachedAs, Attaches, FailsWith, FailsToAttach, TriesAgain, FailsAgain}
 use Rattle.conn_engine.specs.Ending.{Parts, Sweeps}
 use Rattle.conn_laws.specs.Calls.{offer_of, match_of, settlement_of, hand_out_of, offered, matched, settled, handed, Outcome, hand_outs_of, discards_of, MakesAll}
 use Rattle.conn_laws.specs.Places.{own_places, places_brought, places_taken, KeepsPlaces}
@@ -144,7 +144,7 @@ module _ {S P : Type 0} (call : S → SupplyCall P → S → Type 0) where
   attached_as (Ok (New session before)) old new request ticks phase reply answered =
       becomes (ap own_places answered.1.begun) (replaced before (place_in session.membership) old new answered.0)
   attached_as (Ok (Resumed session)) old new request ticks phase reply answered =
-      resumed_as (holds_big request.terms.maximum_packet_size session.window) old new request session phase reply answered
+      resumed_as (holds_message_too_long request.terms.maximum_packet_size session.window) old new request session phase reply answered
   attached_as (Ok (Replace holder)) old new request ticks phase reply answered =
       still old new (waits_as (nat_lt ticks most_ticks) request ticks phase reply answered.0) answered.1
   attached_as (Ok Busy) old new request ticks phase reply answered = still old new (ap own_places answered.0.over) answered.1

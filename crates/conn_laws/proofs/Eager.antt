@@ -18,9 +18,9 @@ use Rattle.conn_engine.specs.Step.{hand_out_terms, Hands}
 abbrev Waits : Contents Held → Type 0
 Waits window = IsNextResend window None
 
-all_again : (sent : List Packet) (old new : Contents Held) → SendsAgain old sent new → Waits new
-all_again [] old new sends = subst Waits (sym sends.1) sends.0
-all_again (packet ∷ packets) old new sends = all_again packets (after_resend old (Some sends.0)) new sends.3
+all_again : (now : ℕ) (sent : List Packet) (old new : Contents Held) → SendsAgain now old sent new → Waits new
+all_again now [] old new sends = subst Waits (sym sends.1) sends.0
+all_again now (packet ∷ packets) old new sends = all_again now packets (after_resend old (Some sends.0)) new sends.3
 
 module _ {S P : Type 0} (call : S → SupplyCall P → S → Type 0) where
   asked_last : (terms : HandOutTerms) (old new : S) (place place' : P) (window : Contents Held) → AsksFor call old place None place' new → IsServed call terms new (Member place') window
@@ -71,18 +71,18 @@ module _ {S P : Type 0} (call : S → SupplyCall P → S → Type 0) where
       (subst Waits (sym hands.1) waits, leaves terms old new place window window' membership' hands.2)
 
   -- nothing is left, where the connection has a session
-  abbrev pub NoneLeft : ConnPhase P → S → Type 0
-  NoneLeft (Unconnected opened) new = Unit {0}
-  NoneLeft (Waiting request ticks) new = Unit {0}
-  NoneLeft (Connected connected) new = IsAllHandedOut call connected new
-  NoneLeft Ended new = Unit {0}
+  abbrev pub NoneLeft : ConnPhase P → ℕ → S → Type 0
+  NoneLeft (Unconnected opened) now new = Unit {0}
+  NoneLeft (Waiting request ticks) now new = Unit {0}
+  NoneLeft (Connected connected) now new = IsAllHandedOut call connected now new
+  NoneLeft Ended now new = Unit {0}
 
   module _ (slot_of : P → ℕ) where
-    pub handed : (between : ConnPhase P) (old new : S) (sent : List Packet) (phase : ConnPhase P) → Hands call slot_of old between sent phase new → NoneLeft phase new
-    handed (Unconnected opened) old new sent phase hands = subst (λ s. NoneLeft s new) (sym hands.1) tt
-    handed (Waiting request ticks) old new sent phase hands = subst (λ s. NoneLeft s new) (sym hands.1) tt
-    handed (Connected connected) old new sent phase hands =
+    pub handed : (between : ConnPhase P) (now : ℕ) (old new : S) (sent : List Packet) (phase : ConnPhase P) → Hands call slot_of old between now sent phase new → NoneLeft phase now new
+    handed (Unconnected opened) now old new sent phase hands = subst (λ s. NoneLeft s now new) (sym hands.1) tt
+    handed (Waiting request ticks) now old new sent phase hands = subst (λ s. NoneLeft s now new) (sym hands.1) tt
+    handed (Connected connected) now old new sent phase hands =
         let out = hands.2 in
-        let all = fresh (hand_out_terms connected) connected.session.membership old new out.between out.fresh hands.0 hands.1 out.sent_fresh (all_again out.again connected.session.window out.between out.sent_again) in
-        subst (λ s. NoneLeft s new) (sym hands.3) (record { again = all.0; fresh = all.1 })
-    handed Ended old new sent phase hands = subst (λ s. NoneLeft s new) (sym hands.1) tt
+        let all = fresh (hand_out_terms connected now) connected.session.membership old new out.between out.fresh hands.0 hands.1 out.sent_fresh (all_again now out.again connected.session.window out.between out.sent_again) in
+        subst (λ s. NoneLeft s now new) (sym hands.3) (record { again = all.0; fresh = all.1 })
+    handed Ended now old new sent phase hands = subst (λ s. NoneLeft s now new) (sym hands.1) tt

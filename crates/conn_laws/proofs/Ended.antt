@@ -24,7 +24,7 @@ use Rattle.conn_engine.specs.declared.phase.ConnectedClient.{ConnectedClient}
 use Rattle.conn_engine.specs.declared.phase.Opening.{Opening}
 use Rattle.conn_engine.specs.declared.phase.ConnPhase.{ConnPhase}
 use Rattle.conn_engine.specs.declared.phase.ConnPhase.TheVariants.{Unconnected, Waiting, Connected, Ended}
-use Rattle.conn_engine.specs.Connecting.{holds_big, most_ticks, IsRefused, Accepts, WaitsAs, ResumesAs, AttachedAs}
+use Rattle.conn_engine.specs.Connecting.{holds_message_too_long, most_ticks, IsRefused, Accepts, WaitsAs, ResumesAs, AttachedAs}
 use Rattle.conn_laws.specs.Behind.{IsLast, KeepsOrEnds}
 use Rattle.conn_engine.specs.Step.{IsClosed, IsRefusedIf, WaitsForConnect, AnswersFirst, Concludes, AnswersPacket, AnswersTick, AnswersUnlessKicked, IsHeard, Reacts, Hands, Steps}
 
@@ -80,7 +80,7 @@ module _ {S P : Type 0} (call : S → SupplyCall P → S → Type 0) (slot_of : 
       → AttachedAs call old request ticks answer phase reply new → Agrees phase reply.next
   attached (Ok (New session ended)) old new request ticks phase reply is = accepts phase reply request false session is.1
   attached (Ok (Resumed session)) old new request ticks phase reply is =
-      resumes (holds_big request.terms.maximum_packet_size session.window) old new request session phase reply is
+      resumes (holds_message_too_long request.terms.maximum_packet_size session.window) old new request session phase reply is
   attached (Ok (Replace holder)) old new request ticks phase reply is = waits (nat_lt ticks most_ticks) phase reply request ticks is.0
   attached (Ok Busy) old new request ticks phase reply is = refuses phase reply _ is.0
   attached (Err errors.Full) old new request ticks phase reply is = refuses phase reply _ is.0
@@ -134,16 +134,16 @@ module _ {S P : Type 0} (call : S → SupplyCall P → S → Type 0) (slot_of : 
   reacts (Connected connected) inputs.Closing old new number now between reply is = told between reply _ _ is.2 is.0 refl
   reacts Ended input old new number now between reply is = closes between reply is.0
 
-  hands : (between : ConnPhase P) (old new : S) (sent : List Packet) (phase : ConnPhase P) → Hands call slot_of old between sent phase new → over phase ≡ over between
-  hands (Unconnected opened) old new sent phase is = ap over is.1
-  hands (Waiting request ticks) old new sent phase is = ap over is.1
-  hands (Connected connected) old new sent phase is = ap over is.3
-  hands Ended old new sent phase is = ap over is.1
+  hands : (between : ConnPhase P) (now : ℕ) (old new : S) (sent : List Packet) (phase : ConnPhase P) → Hands call slot_of old between now sent phase new → over phase ≡ over between
+  hands (Unconnected opened) now old new sent phase is = ap over is.1
+  hands (Waiting request ticks) now old new sent phase is = ap over is.1
+  hands (Connected connected) now old new sent phase is = ap over is.3
+  hands Ended now old new sent phase is = ap over is.1
 
   steps_agree : (old new : S) (number now : ℕ) (phase phase' : ConnPhase P) (input : Input) (packets : List Packet) (next : Then)
       → Steps call slot_of old number phase now input packets next phase' new → Agrees phase' next
   steps_agree old new number now phase phase' input packets next steps =
-      hands steps.between steps.mid new steps.sent phase' steps.hands
+      hands steps.between now steps.mid new steps.sent phase' steps.hands
       ∙ reacts phase input old steps.mid number now steps.between steps.reply steps.reacts ∙ sym (ap stops steps.followed)
 
   as_told : (phase : ConnPhase P) (next : Then) → Agrees phase next → (phase ≡ Ended) ↔ (next ≢ Go)
@@ -236,13 +236,13 @@ module _ {S P : Type 0} (call : S → SupplyCall P → S → Type 0) (slot_of : 
   reacts_keeping inputs.EndOfInput old new number now connected between reply is = subst KeepsOrEnds (sym is.1.1) tt
   reacts_keeping inputs.Closing old new number now connected between reply is = subst KeepsOrEnds (sym is.2) tt
 
-  hands_keeping : (between : ConnPhase P) (old new : S) (sent : List Packet) (phase : ConnPhase P) → KeepsOrEnds between → Hands call slot_of old between sent phase new → KeepsOrEnds phase
-  hands_keeping (Unconnected opened) old new sent phase keeps is = absurd keeps
-  hands_keeping (Waiting request ticks) old new sent phase keeps is = absurd keeps
-  hands_keeping (Connected connected) old new sent phase keeps is = subst KeepsOrEnds (sym is.3) tt
-  hands_keeping Ended old new sent phase keeps is = subst KeepsOrEnds (sym is.1) tt
+  hands_keeping : (between : ConnPhase P) (now : ℕ) (old new : S) (sent : List Packet) (phase : ConnPhase P) → KeepsOrEnds between → Hands call slot_of old between now sent phase new → KeepsOrEnds phase
+  hands_keeping (Unconnected opened) now old new sent phase keeps is = absurd keeps
+  hands_keeping (Waiting request ticks) now old new sent phase keeps is = absurd keeps
+  hands_keeping (Connected connected) now old new sent phase keeps is = subst KeepsOrEnds (sym is.3) tt
+  hands_keeping Ended now old new sent phase keeps is = subst KeepsOrEnds (sym is.1) tt
 
   pub keeping : (old new : S) (number now : ℕ) (connected : ConnectedClient P) (phase' : ConnPhase P) (input : Input) (packets : List Packet) (next : Then)
       → Steps call slot_of old number (Connected connected) now input packets next phase' new → KeepsOrEnds phase'
   keeping old new number now connected phase' input packets next steps =
-      hands_keeping steps.between steps.mid new steps.sent phase' (reacts_keeping input old steps.mid number now connected steps.between steps.reply steps.reacts) steps.hands
+      hands_keeping steps.between now steps.mid new steps.sent phase' (reacts_keeping input old steps.mid number now connected steps.between steps.reply steps.reacts) steps.hands

@@ -26,9 +26,9 @@ use Rattle.conn_laws.proofs.Ended.{last_over}
 use Rattle.conn_laws.proofs.Stepping.{Walked, none_behind, none_before, further, reacted}
 
 module _ {S P : Type 0} (call : S → SupplyCall P → S → Type 0) where
-  plain : (outcomes : List (Outcome P)) (old new : S) (number : ℕ) (phase : ConnPhase P) (input : Input) → Plain call (hand_outs_of outcomes) (discards_of outcomes) (own_places phase) [] old new
-      → FailedCalls call old number phase input new
-  plain outcomes old new number phase input calls =
+  plain : (outcomes : List (Outcome P)) (old new : S) (number now : ℕ) (phase : ConnPhase P) (input : Input) → Plain call (hand_outs_of outcomes) (discards_of outcomes) (own_places phase) [] old new
+      → FailedCalls call old number phase now input new
+  plain outcomes old new number now phase input calls =
       record {
         supply_calls = calls.supply_calls;
         made = calls.made;
@@ -39,8 +39,8 @@ module _ {S P : Type 0} (call : S → SupplyCall P → S → Type 0) where
         places = calls.places;
       }
 
-  some_of : (number : ℕ) (input : Input) (supply_calls : List (SupplyCall P)) → OffersToEach number input supply_calls → OffersToSome number input supply_calls
-  some_of number input supply_calls each =
+  some_of : (number now : ℕ) (input : Input) (supply_calls : List (SupplyCall P)) → OffersToEach number now input supply_calls → OffersToSome number now input supply_calls
+  some_of number now input supply_calls each =
       record {
         publish = each.publish;
         came = each.came;
@@ -51,15 +51,15 @@ module _ {S P : Type 0} (call : S → SupplyCall P → S → Type 0) where
       }
 
   -- what holds of the calls of a step
-  stepped : (outcomes : List (Outcome P)) (old new : S) (number : ℕ) (phase : ConnPhase P) (input : Input) (next : Then)
-      → Walked call (hand_outs_of outcomes) (discards_of outcomes) old number phase input next [] new → FailedCalls call old number phase input new
-  stepped outcomes old new number phase input next calls =
+  stepped : (outcomes : List (Outcome P)) (old new : S) (number now : ℕ) (phase : ConnPhase P) (input : Input) (next : Then)
+      → Walked call (hand_outs_of outcomes) (discards_of outcomes) old number now phase input next [] new → FailedCalls call old number phase now input new
+  stepped outcomes old new number now phase input next calls =
       record {
         supply_calls = calls.supply_calls;
         made = calls.made;
         offers =
             ⊎_elim
-            (λ (each : OffersToEach number input calls.supply_calls). inl (some_of number input calls.supply_calls each))
+            (λ (each : OffersToEach number now input calls.supply_calls). inl (some_of number now input calls.supply_calls each))
             (λ (none : OffersNone phase input calls.supply_calls next). inr none.offers)
             calls.offers;
         outcomes = outcomes;
@@ -135,11 +135,11 @@ module _ {S P : Type 0} (call : S → SupplyCall P → S → Type 0) where
   part_of slots old new number message (inr offers) = first_of slots old new number message offers
 
   -- a PUBLISH that was cut short, with calls by which nothing is offered before and after it
-  cut_short : (old before after new : S) (number : ℕ) (phase : ConnPhase P) (publish : Publish) → Plain call [] [] (own_places phase) (own_places phase) old before
-      → IsCutShort call before number publish after → Plain call [] [] (own_places phase) [] after new
-      → FailedCalls call old number phase (inputs.Packet (packets.Publish publish)) new
-  cut_short old before after new number phase publish first cut last =
-      let part = part_of cut.slots cut.mid after number (message_of publish) cut.offered in
+  cut_short : (old before after new : S) (number now : ℕ) (phase : ConnPhase P) (publish : Publish) → Plain call [] [] (own_places phase) (own_places phase) old before
+      → IsCutShort call before number now publish after → Plain call [] [] (own_places phase) [] after new
+      → FailedCalls call old number phase now (inputs.Packet (packets.Publish publish)) new
+  cut_short old before after new number now phase publish first cut last =
+      let part = part_of cut.slots cut.mid after number (message_of now publish) cut.offered in
       let match : SupplyCall P = Match publish.topic cut.slots in
       let these = match ∷ part.supply_calls in
       let made = joins call these last.supply_calls before after new (cut.mid, cut.matched, part.made) last.made in
@@ -192,18 +192,18 @@ module _ {S P : Type 0} (call : S → SupplyCall P → S → Type 0) where
 
     -- an allocation failed for the answer to a packet
     failed_to_answer : (packet : Packet) (old before after new : S) (number now : ℕ) (connected connected' : ConnectedClient P)
-        → Plain call [] [] (own_places (Connected connected)) (own_places (Connected connected)) old before → FailsToAnswer call slot_of before number (hearing connected now) packet connected' after
-        → Plain call [] [] (own_places (Connected connected')) [] after new → FailedCalls call old number (Connected connected) (inputs.Packet packet) new
+        → Plain call [] [] (own_places (Connected connected)) (own_places (Connected connected)) old before → FailsToAnswer call slot_of before number (hearing connected now) now packet connected' after
+        → Plain call [] [] (own_places (Connected connected')) [] after new → FailedCalls call old number (Connected connected) now (inputs.Packet packet) new
     failed_to_answer (packets.Publish publish) old before after new number now connected connected' first fails last =
-        cut_short old before after new number (Connected connected) publish first fails.0 (later connected' _ after new fails.1 last)
+        cut_short old before after new number now (Connected connected) publish first fails.0 (later connected' _ after new fails.1 last)
     failed_to_answer (packets.Subscribe subscribe) old before after new number now connected connected' first fails last =
-        plain [] old new number (Connected connected) _ (
+        plain [] old new number now (Connected connected) _ (
         behind call old before new first (
         behind call before after new
         (some_answered call slot_of before after subscribe.subscriptions connected.session.membership fails.0 fails.1)
         (later connected' _ after new fails.2 last)))
     failed_to_answer (packets.Unsubscribe unsubscribe) old before after new number now connected connected' first fails last =
-        plain [] old new number (Connected connected) _ (behind call old before new first (behind call before after new (still call before after refl fails.1) (later connected' _ after new fails.0 last)))
+        plain [] old new number now (Connected connected) _ (behind call old before new first (behind call before after new (still call before after refl fails.1) (later connected' _ after new fails.0 last)))
     failed_to_answer (packets.Connect connect) old before after new number now connected connected' first fails last = absurd fails
     failed_to_answer (packets.Connack connack) old before after new number now connected connected' first fails last = absurd fails
     failed_to_answer (packets.Puback puback) old before after new number now connected connected' first fails last = absurd fails
@@ -218,14 +218,14 @@ module _ {S P : Type 0} (call : S → SupplyCall P → S → Type 0) where
 
     -- an allocation failed for the reply
     failed_to_react : (phase : ConnPhase P) (input : Input) (old new : S) (number now : ℕ) → FailsToReact call slot_of old number phase now input new
-        → FailedCalls call old number phase input new
-    failed_to_react (Unconnected opened) (inputs.Packet packet) old new number now fails = plain [] old new number _ _ (failed_to_attach call old new number now _ fails.2)
+        → FailedCalls call old number phase now input new
+    failed_to_react (Unconnected opened) (inputs.Packet packet) old new number now fails = plain [] old new number now _ _ (failed_to_attach call old new number now _ fails.2)
     failed_to_react (Unconnected opened) (inputs.Fault fault) old new number now fails = absurd fails
     failed_to_react (Unconnected opened) inputs.Tick old new number now fails = absurd fails
     failed_to_react (Unconnected opened) inputs.EndOfInput old new number now fails = absurd fails
     failed_to_react (Unconnected opened) inputs.Closing old new number now fails = absurd fails
     failed_to_react (Waiting request ticks) inputs.Tick old new number now fails =
-        plain [] old new number _ _ (behind call old fails.0 new (swept call 256 old fails.0 now fails.1) (failed_again call fails.0 new number now request fails.2))
+        plain [] old new number now _ _ (behind call old fails.0 new (swept call 256 old fails.0 now fails.1) (failed_again call fails.0 new number now request fails.2))
     failed_to_react (Waiting request ticks) (inputs.Packet packet) old new number now fails = absurd fails
     failed_to_react (Waiting request ticks) (inputs.Fault fault) old new number now fails = absurd fails
     failed_to_react (Waiting request ticks) inputs.EndOfInput old new number now fails = absurd fails
@@ -249,19 +249,19 @@ module _ {S P : Type 0} (call : S → SupplyCall P → S → Type 0) where
     handed_less (Unconnected opened) old new now hands = absurd hands
     handed_less (Waiting request ticks) old new now hands = absurd hands
     handed_less (Connected connected) old new now hands =
-        let some = handed_some call (hand_out_terms connected) old hands.2 connected.session.membership connected.session.window hands.0 hands.1 hands.3 in
+        let some = handed_some call (hand_out_terms connected now) old hands.2 connected.session.membership connected.session.window hands.0 hands.1 hands.3 in
         hands_on call some.0 [] old hands.2 new some.1 (parted call hands.2 new (after_hand_out connected hands.0 hands.1).session now hands.4)
     handed_less Ended old new now hands = absurd hands
 
-    pub failed : (old new : S) (number now : ℕ) (phase : ConnPhase P) (input : Input) → FailsToStep call slot_of old number phase now input new → FailedCalls call old number phase input new
-    failed old new number now phase input (inl cuts) = plain [] old new number phase input (cut_off input phase old new number now cuts)
+    pub failed : (old new : S) (number now : ℕ) (phase : ConnPhase P) (input : Input) → FailsToStep call slot_of old number phase now input new → FailedCalls call old number phase now input new
+    failed old new number now phase input (inl cuts) = plain [] old new number now phase input (cut_off input phase old new number now cuts)
     failed old new number now phase input (inr fails) =
         ⊎_elim
         (λ (reply : FailsToReact call slot_of old number phase now input new). failed_to_react phase input old new number now reply)
         (λ (hand : FailsToHand call slot_of old number phase now input new).
         let some = handed_less hand.between hand.mid new now hand.hands in
-        stepped some.0 old new number phase input hand.reply.next (
-        further call (hand_outs_of some.0) old hand.mid new number phase input hand.reply.next
+        stepped some.0 old new number now phase input hand.reply.next (
+        further call (hand_outs_of some.0) old hand.mid new number now phase input hand.reply.next
         (reacted call slot_of phase input old hand.mid number now hand.between hand.reply hand.reacts) some.1))
         fails
 
@@ -278,7 +278,7 @@ module _ {S P : Type 0} (call : S → SupplyCall P → S → Type 0) where
         subst (λ between. HandsLess call slot_of fails.mid between now new) over fails.hands
 
     pub failed_at_the_end : (old new : S) (number now : ℕ) (phase : ConnPhase P) → FailsToStep call slot_of old number phase now inputs.EndOfInput new
-        → (calls : FailedCalls call old number phase inputs.EndOfInput new) × (handed calls.supply_calls ≡ [])
+        → (calls : FailedCalls call old number phase now inputs.EndOfInput new) × (handed calls.supply_calls ≡ [])
     failed_at_the_end old new number now phase (inl cuts) =
         let calls = given_up phase old new number now cuts in (
           record {

@@ -4,7 +4,6 @@ use Rattle.std.specs.List.{AllByRecursion}
 use Rattle.std.proofs.lemmas.List.{map-append}
 use Rattle.std.proofs.lemmas.List.Elements.{filter_map-append}
 use Rattle.mqtt_packet.specs.declared.packet.Packet.{Packet}
-use Rattle.group_jobs.specs.declared.message.Message.{Message}
 use Rattle.group_jobs.specs.Stamps.{Held, under}
 use Rattle.group_jobs.specs.declared.fate.Fate.{Fate}
 use Rattle.group_jobs.specs.declared.fate.Fate.TheVariants.{Discarded}
@@ -20,7 +19,7 @@ use Rattle.conn_rules.specs.Packets.{job}
 use Rattle.conn_supply.specs.SupplyCalls.{SupplyCall}
 use Rattle.conn_supply.specs.SupplyCalls.SupplyCall.{MayTake, TakeBack, Take}
 use Rattle.conn_supply.specs.HandOuts.{SendsAgain, AsksFor, DiscardsOne, Discards, Finds, LooksFor, SendsFresh, LeavesWith, HandsFresh, HandsOut}
-use Rattle.conn_laws.specs.Calls.{handed, Outcome, if_sent, if_discarded, hand_outs_of, sent_of, discards_of, IsSentIfFit, messages_of, fresh_message, fresh_messages, AsksForMessage}
+use Rattle.conn_laws.specs.Calls.{handed, Outcome, if_sent, if_discarded, hand_outs_of, sent_of, discards_of, IsSentIfFit, Content, content_of, contents_of, fresh_content, fresh_contents, AsksForMessage}
 use Rattle.conn_laws.specs.Marks.{publishes_in, publishes_of, fresh_of, acknowledged_of, IsWithin}
 use Rattle.conn_laws.specs.Transcripts.{HasOneAs, KeepsNumbers}
 use Rattle.conn_laws.specs.Places.{KeepsInTurn, KeepsPlaces}
@@ -28,37 +27,37 @@ use Rattle.conn_laws.proofs.Aside.{Aside, all_of_both}
 use Rattle.conn_laws.proofs.Aside as asides
 use Rattle.conn_laws.proofs.InTurn.{InTurn, still, hand, one, discard, after, behind}
 
--- calls of a window whose marks are these PUBLISH packets; these items go out for the first time
-pub record Sends (old : Contents Held) (sent : List Packet) (fresh : List Held) (new : Contents Held) : Type 0 where
+-- calls of a window whose marks, made at this moment, are these PUBLISH packets; these items go out for the first time
+pub record Sends (now : ℕ) (old : Contents Held) (sent : List Packet) (fresh : List Held) (new : Contents Held) : Type 0 where
   pub calls : List (Call Held)
   pub made : windows.MakesAll old calls new
   pub within : AllByRecursion IsWithin (transcript_of calls)
-  pub publishes : publishes_in sent ≡ publishes_of (transcript_of calls)
+  pub publishes : publishes_in sent ≡ publishes_of now (transcript_of calls)
   pub fresh_are : fresh ≡ fresh_of (transcript_of calls)
   pub none_acked : acknowledged_of (transcript_of calls) ≡ []
 
-sends_none : (old new : Contents Held) → new ≡ old → Sends old [] [] new
-sends_none old new same = record { calls = []; made = same; within = tt; publishes = refl; fresh_are = refl; none_acked = refl }
+sends_none : (now : ℕ) (old new : Contents Held) → new ≡ old → Sends now old [] [] new
+sends_none now old new same = record { calls = []; made = same; within = tt; publishes = refl; fresh_are = refl; none_acked = refl }
 
 -- what is sent again goes before the rest
-again_before : (packets more : List Packet) (fresh : List Held) (old mid new : Contents Held) → SendsAgain old packets mid → Sends mid more fresh new → Sends old (packets ++ more) fresh new
-again_before [] more fresh old mid new again rest = subst (λ window. Sends window more fresh new) again.1 rest
-again_before (packet ∷ packets) more fresh old mid new again rest =
-    let others = again_before packets more fresh (after_resend old (Some again.0)) mid new again.3 rest in
+again_before : (now : ℕ) (packets more : List Packet) (fresh : List Held) (old mid new : Contents Held) → SendsAgain now old packets mid → Sends now mid more fresh new → Sends now old (packets ++ more) fresh new
+again_before now [] more fresh old mid new again rest = subst (λ window. Sends now window more fresh new) again.1 rest
+again_before now (packet ∷ packets) more fresh old mid new again rest =
+    let others = again_before now packets more fresh (after_resend old (Some again.0)) mid new again.3 rest in
     record {
       calls = NextResend (Some again.0) ∷ others.calls;
       made = (tt, (after_resend old (Some again.0), (again.1, refl), others.made));
       within = (tt, others.within);
-      publishes = ap (λ p. publishes_in (p ∷ (packets ++ more))) again.2 ∙ ap (λ ps. job true again.0.1.message again.0.1.subscription again.0.0 ∷ ps) others.publishes;
+      publishes = ap (λ p. publishes_in (p ∷ (packets ++ more))) again.2 ∙ ap (λ ps. job now true again.0.1.message again.0.1.subscription again.0.0 ∷ ps) others.publishes;
       fresh_are = others.fresh_are;
       none_acked = others.none_acked;
     }
 
 -- and is not sent for the first time
-none_fresh_again : (packets : List Packet) (old new : Contents Held) → SendsAgain old packets new → fresh_messages packets ≡ []
-none_fresh_again [] old new again = refl
-none_fresh_again (packet ∷ packets) old new again =
-    ap (λ p. fresh_messages (p ∷ packets)) again.2 ∙ none_fresh_again packets (after_resend old (Some again.0)) new again.3
+none_fresh_again : (now : ℕ) (packets : List Packet) (old new : Contents Held) → SendsAgain now old packets new → fresh_contents packets ≡ []
+none_fresh_again now [] old new again = refl
+none_fresh_again now (packet ∷ packets) old new again =
+    ap (λ p. fresh_contents (p ∷ packets)) again.2 ∙ none_fresh_again now packets (after_resend old (Some again.0)) new again.3
 
 -- what was found from this place, if anything was
 abbrev pub given_in : {P : Type 0} → P → Option Held → List (P × Held)
@@ -279,26 +278,26 @@ module _ {S P : Type 0} (call : S → SupplyCall P → S → Type 0) (terms : Ha
     pub outcomes : List (Outcome P)
     pub calls : Aside call (hand_outs_of outcomes) (discards_of outcomes) places (place_in membership') old new
     pub to_one : (handed calls.supply_calls ≡ []) ⊎ AsksOnlyFor places calls.supply_calls membership'
-    pub sends : Sends window sent (map (λ (h : P × Held). under terms.subscription h.1) (sent_of outcomes)) window'
+    pub sends : Sends terms.at window sent (map (λ (h : P × Held). under terms.subscription h.1) (sent_of outcomes)) window'
     pub own : (of : P → ℕ) → KeepsNumbers call of → AllByRecursion (λ (h : P × Held). HasOneAs of membership' h.0) (hand_outs_of outcomes)
     pub fit : AllByRecursion (IsSentIfFit terms) outcomes
     pub discards : discards_of outcomes ≡ all_discarded discarded
-    pub messages : fresh_messages sent ≡ messages_of (sent_of outcomes)
+    pub contents : fresh_contents sent ≡ contents_of (sent_of outcomes)
 
   hands_none : {places : List P} (old new : S) (window : Contents Held) (sent : List Packet) (membership' : Membership P) (window' : Contents Held) → sent ≡ [] → window' ≡ window → Aside call [] [] places (place_in membership') old new
       → Handed [] old places window sent membership' window' new
   hands_none {places} old new window sent membership' window' none same calls =
       subst (λ packets. Handed [] old places window packets membership' window' new) (sym none)
-      (record { outcomes = []; calls = calls; to_one = inl calls.hands; sends = sends_none window window' same; own = λ of keeps. tt; fit = tt; discards = refl; messages = refl })
+      (record { outcomes = []; calls = calls; to_one = inl calls.hands; sends = sends_none terms.at window window' same; own = λ of keeps. tt; fit = tt; discards = refl; contents = refl })
 
   -- to the place of a member, which keeps its numbers
   pub record HandedTo (discarded : List Held) (old : S) (place : P) (window : Contents Held) (sent : List Packet) (place' : P) (window' : Contents Held) (new : S) : Type 0 where
     pub outcomes : List (Outcome P)
     pub asks : Asks outcomes old place place' new
     pub fit : AllByRecursion (IsSentIfFit terms) outcomes
-    pub sends : Sends window sent (map (λ (h : P × Held). under terms.subscription h.1) (sent_of outcomes)) window'
+    pub sends : Sends terms.at window sent (map (λ (h : P × Held). under terms.subscription h.1) (sent_of outcomes)) window'
     pub discards : discards_of outcomes ≡ all_discarded discarded
-    pub messages : fresh_messages sent ≡ messages_of (sent_of outcomes)
+    pub contents : fresh_contents sent ≡ contents_of (sent_of outcomes)
 
   none_to : (envelopes : List Held) (old new : S) (place place' : P) (window window' : Contents Held) → window' ≡ window → AllDiscarded envelopes old place place' new
       → HandedTo envelopes old place window [] place' window' new
@@ -308,9 +307,9 @@ module _ {S P : Type 0} (call : S → SupplyCall P → S → Type 0) (terms : Ha
         asks = discarded.asks;
         fit = discarded.fit;
         sends =
-            subst (λ (l : List (P × Held)). Sends window [] (map (λ (h : P × Held). under terms.subscription h.1) l) window') (sym discarded.none_sent) (sends_none window window' same);
+            subst (λ (l : List (P × Held)). Sends terms.at window [] (map (λ (h : P × Held). under terms.subscription h.1) l) window') (sym discarded.none_sent) (sends_none terms.at window window' same);
         discards = discarded.discards;
-        messages = ap messages_of (sym discarded.none_sent);
+        contents = ap contents_of (sym discarded.none_sent);
       }
 
   -- what is sent of these, where of the earlier ones nothing is
@@ -336,13 +335,13 @@ module _ {S P : Type 0} (call : S → SupplyCall P → S → Type 0) (terms : Ha
         asks = asks_on these rest.outcomes old sends.2 new place sends.0 place' found.asks rest.asks;
         fit = all_of_both (IsSentIfFit terms) these rest.outcomes found.fit rest.fit;
         sends =
-            subst (λ (l : List (P × Held)). Sends window (packet ∷ packets) (map (λ (h : P × Held). under terms.subscription h.1) l) window') (sym sent)
+            subst (λ (l : List (P × Held)). Sends terms.at window (packet ∷ packets) (map (λ (h : P × Held). under terms.subscription h.1) l) window') (sym sent)
             (record {
               calls = Put (under terms.subscription first.envelope) (Ok first.identifier) ∷ rest.sends.calls;
               made = (tt, (sends.1, (first.room, first.free, first.put), rest.sends.made));
               within = (tt, rest.sends.within);
               publishes =
-                  ap (λ p. publishes_in (p ∷ packets)) first.sent ∙ ap (λ ps. job false first.envelope.message terms.subscription first.identifier ∷ ps) rest.sends.publishes;
+                  ap (λ p. publishes_in (p ∷ packets)) first.sent ∙ ap (λ ps. job terms.at false first.envelope.message terms.subscription first.identifier ∷ ps) rest.sends.publishes;
               fresh_are = ap (λ items. under terms.subscription first.envelope ∷ items) rest.sends.fresh_are;
               none_acked = rest.sends.none_acked;
             });
@@ -350,8 +349,8 @@ module _ {S P : Type 0} (call : S → SupplyCall P → S → Type 0) (terms : Ha
             discards_of_both these rest.outcomes
             ∙ (λ i. (discards_of_both found.earlier (record { hand_out = (found.from, first.envelope); sent = true } ∷ []) ∙ append-nil (discards_of found.earlier) ∙ found.discards) i ++ rest.discards i)
             ∙ sym (map-append (λ (envelope : Held). (envelope, Discarded)) first.found.discarded (discarded_fresh call terms packets sends.2 new sends.0 place' sends.1 window' sends.4));
-        messages =
-            ap (λ p. fresh_messages (p ∷ packets)) first.sent ∙ ap (λ (ms : List Message). first.envelope.message ∷ ms) rest.messages ∙ ap messages_of (sym sent);
+        contents =
+            ap (λ p. fresh_contents (p ∷ packets)) first.sent ∙ ap (λ (cs : List Content). content_of first.envelope.message ∷ cs) rest.contents ∙ ap contents_of (sym sent);
       }
 
   -- so it is to a session with this membership
@@ -379,7 +378,7 @@ module _ {S P : Type 0} (call : S → SupplyCall P → S → Type 0) (terms : Ha
     own = λ of keeps. owned membership' place place' of (hand_outs_of to.outcomes) is (to.asks.stays of keeps) (to.asks.from of keeps);
     fit = to.fit;
     discards = to.discards;
-    messages = to.messages;
+    contents = to.contents;
   }
 
   left_with : (old new : S) (place : P) (window : Contents Held) (membership : Membership P) → LeavesWith call old place window membership new → Aside call [] [] (place ∷ []) (place_in membership) old new
@@ -406,11 +405,11 @@ module _ {S P : Type 0} (call : S → SupplyCall P → S → Type 0) (terms : Ha
         outcomes = fresh.outcomes;
         calls = fresh.calls;
         to_one = fresh.to_one;
-        sends = again_before hands.again hands.fresh _ window hands.between window' hands.sent_again fresh.sends;
+        sends = again_before terms.at hands.again hands.fresh _ window hands.between window' hands.sent_again fresh.sends;
         own = fresh.own;
         fit = fresh.fit;
         discards = fresh.discards;
-        messages =
-            filter_map-append fresh_message hands.again hands.fresh
-            ∙ (λ i. none_fresh_again hands.again window hands.between hands.sent_again i ++ fresh.messages i);
+        contents =
+            filter_map-append fresh_content hands.again hands.fresh
+            ∙ (λ i. none_fresh_again terms.at hands.again window hands.between hands.sent_again i ++ fresh.contents i);
       })

@@ -42,11 +42,11 @@ module _ {S P : Type 0} (call : S → SupplyCall P → S → Type 0) (slot_of : 
   same : (connected connected' : ConnectedClient P) → connected' ≡ connected → Within (Connected connected) → Within (Connected connected')
   same connected connected' is within = subst (λ l. Within (Connected l)) (sym is) within
 
-  handed : (phase phase' : ConnPhase P) (old new : S) (sent : List Packet) → Hands call slot_of old phase sent phase' new → Within phase → Within phase'
-  handed (Unconnected opened) phase' old new sent hands within = subst Within (sym hands.1) within
-  handed (Waiting request ticks) phase' old new sent hands within = subst Within (sym hands.1) within
-  handed (Connected connected) phase' old new sent hands within = subst Within (sym hands.3) within
-  handed Ended phase' old new sent hands within = ended phase' hands.1
+  handed : (phase phase' : ConnPhase P) (now : ℕ) (old new : S) (sent : List Packet) → Hands call slot_of old phase now sent phase' new → Within phase → Within phase'
+  handed (Unconnected opened) phase' now old new sent hands within = subst Within (sym hands.1) within
+  handed (Waiting request ticks) phase' now old new sent hands within = subst Within (sym hands.1) within
+  handed (Connected connected) phase' now old new sent hands within = subst Within (sym hands.3) within
+  handed Ended phase' now old new sent hands within = ended phase' hands.1
 
   accepted : (request : ConnectRequest) (present : Bool) (session : Session Held P) (phase : ConnPhase P) (reply : Reply) → Accepts request present session phase reply
       → request.terms.receive_maximum ≤ limit → Within phase
@@ -98,22 +98,22 @@ module _ {S P : Type 0} (call : S → SupplyCall P → S → Type 0) (slot_of : 
   disconnects None connected connected' reply does within = same connected connected' does.0 within
   disconnects (Some seconds) connected connected' reply does within = disconnects_if _ connected connected' seconds reply does within
 
-  answered : (packet : Packet) (old new : S) (number : ℕ) (connected connected' : ConnectedClient P) (reply : Reply) → Answers call slot_of old number connected packet connected' reply new
+  answered : (packet : Packet) (old new : S) (number now : ℕ) (connected connected' : ConnectedClient P) (reply : Reply) → Answers call slot_of old number connected now packet connected' reply new
       → Within (Connected connected) → Within (Connected connected')
-  answered (packets.Publish publish) old new number connected connected' reply answers within = same connected connected' answers.1 within
-  answered (packets.Puback puback) old new number connected connected' reply answers within = subst (λ l. Within (Connected l)) (sym answers.2) within
-  answered (packets.Subscribe subscribe) old new number connected connected' reply answers within = subst (λ l. Within (Connected l)) (sym answers.3) within
-  answered (packets.Unsubscribe unsubscribe) old new number connected connected' reply answers within = subst (λ l. Within (Connected l)) (sym answers.2) within
-  answered packets.Pingreq old new number connected connected' reply answers within = same connected connected' answers.0 within
-  answered (packets.Disconnect disconnect) old new number connected connected' reply answers within = disconnects disconnect.properties.session_expiry_interval connected connected' reply answers.0 within
-  answered (packets.Connect connect) old new number connected connected' reply answers within = same connected connected' answers.0 within
-  answered (packets.Connack connack) old new number connected connected' reply answers within = same connected connected' answers.0 within
-  answered (packets.Suback suback) old new number connected connected' reply answers within = same connected connected' answers.0 within
-  answered (packets.Unsuback unsuback) old new number connected connected' reply answers within = same connected connected' answers.0 within
-  answered packets.Pingresp old new number connected connected' reply answers within = same connected connected' answers.0 within
-  answered (packets.Foreign kind) old new number connected connected' reply answers within = same connected connected' answers.0 within
-  answered (packets.OtherVersion version) old new number connected connected' reply answers within = same connected connected' answers.0 within
-  answered packets.WithWill old new number connected connected' reply answers within = same connected connected' answers.0 within
+  answered (packets.Publish publish) old new number now connected connected' reply answers within = same connected connected' answers.1 within
+  answered (packets.Puback puback) old new number now connected connected' reply answers within = subst (λ l. Within (Connected l)) (sym answers.2) within
+  answered (packets.Subscribe subscribe) old new number now connected connected' reply answers within = subst (λ l. Within (Connected l)) (sym answers.3) within
+  answered (packets.Unsubscribe unsubscribe) old new number now connected connected' reply answers within = subst (λ l. Within (Connected l)) (sym answers.2) within
+  answered packets.Pingreq old new number now connected connected' reply answers within = same connected connected' answers.0 within
+  answered (packets.Disconnect disconnect) old new number now connected connected' reply answers within = disconnects disconnect.properties.session_expiry_interval connected connected' reply answers.0 within
+  answered (packets.Connect connect) old new number now connected connected' reply answers within = same connected connected' answers.0 within
+  answered (packets.Connack connack) old new number now connected connected' reply answers within = same connected connected' answers.0 within
+  answered (packets.Suback suback) old new number now connected connected' reply answers within = same connected connected' answers.0 within
+  answered (packets.Unsuback unsuback) old new number now connected connected' reply answers within = same connected connected' answers.0 within
+  answered packets.Pingresp old new number now connected connected' reply answers within = same connected connected' answers.0 within
+  answered (packets.Foreign kind) old new number now connected connected' reply answers within = same connected connected' answers.0 within
+  answered (packets.OtherVersion version) old new number now connected connected' reply answers within = same connected connected' answers.0 within
+  answered packets.WithWill old new number now connected connected' reply answers within = same connected connected' answers.0 within
 
   concluded : (next : Then) (old new : S) (connected : ConnectedClient P) (now : ℕ) (phase : ConnPhase P) → Concludes call slot_of old connected now next phase new → Within (Connected connected) → Within phase
   concluded Go old new connected now phase concludes within = subst Within (sym concludes.0) within
@@ -123,7 +123,7 @@ module _ {S P : Type 0} (call : S → SupplyCall P → S → Type 0) (slot_of : 
   answered_packet : (old new : S) (number : ℕ) (connected : ConnectedClient P) (now : ℕ) (packet : Packet) (phase : ConnPhase P) (reply : Reply)
       → AnswersPacket call slot_of old number connected now packet phase reply new → Within (Connected connected) → Within phase
   answered_packet old new number connected now packet phase reply answers within =
-      concluded reply.next answers.1 new answers.0 now phase answers.3 (answered packet old answers.1 number (hearing connected now) answers.0 reply answers.2 within)
+      concluded reply.next answers.1 new answers.0 now phase answers.3 (answered packet old answers.1 number now (hearing connected now) answers.0 reply answers.2 within)
 
   heard : (silent : Bool) (old new : S) (connected : ConnectedClient P) (now : ℕ) (phase : ConnPhase P) (reply : Reply) → IsHeard call slot_of silent old connected now phase reply new
       → Within (Connected connected) → Within phase
@@ -160,4 +160,4 @@ module _ {S P : Type 0} (call : S → SupplyCall P → S → Type 0) (slot_of : 
   pub within : (number now : ℕ) (phase phase' : ConnPhase P) (input : Input) (sent : List Packet) (next : Then) (old new : S)
       → Steps call slot_of old number phase now input sent next phase' new → Within phase → Within phase'
   within number now phase phase' input sent next old new steps kept =
-      handed steps.between phase' steps.mid new steps.sent steps.hands (reacted phase input old steps.mid number now steps.between steps.reply steps.reacts kept)
+      handed steps.between phase' now steps.mid new steps.sent steps.hands (reacted phase input old steps.mid number now steps.between steps.reply steps.reacts kept)

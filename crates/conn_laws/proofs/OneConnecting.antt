@@ -16,7 +16,7 @@ use Rattle.conn_engine.specs.declared.phase.ConnPhase.{ConnPhase}
 use Rattle.conn_engine.specs.declared.phase.ConnPhase.TheVariants.{Unconnected, Waiting, Connected, Ended}
 use Rattle.conn_laws.specs.Asking.{OneAnswer}
 use Rattle.conn_engine.specs.Ending.{down}
-use Rattle.conn_engine.specs.Connecting.{most_ticks, holds_big, IsRefused, Accepts, WaitsAs, RetiresEarlier, ResumesAs, AttachedAs, Attaches, Withdraws, TriesAgain}
+use Rattle.conn_engine.specs.Connecting.{most_ticks, holds_message_too_long, IsRefused, Accepts, WaitsAs, RetiresEarlier, ResumesAs, AttachedAs, Attaches, Withdraws, TriesAgain}
 use Rattle.conn_laws.proofs.OneCall as calls
 use Rattle.conn_laws.proofs.OneEnding as endings
 
@@ -55,7 +55,7 @@ module _ {S P : Type 0} (call : S → SupplyCall P → S → Type 0) (AreAlike :
   attached_as (Ok (New session ended)) a a' b b' request ticks s t r u alike h k =
       (accepted request false session s t r u h.1 k.1, retired_earlier ended a a' b b' alike h.0 k.0)
   attached_as (Ok (Resumed session)) a a' b b' request ticks s t r u alike h k =
-      resumed (holds_big request.terms.maximum_packet_size session.window) a a' b b' request session s t r u alike h k
+      resumed (holds_message_too_long request.terms.maximum_packet_size session.window) a a' b b' request session s t r u alike h k
   attached_as (Ok (Replace holder)) a a' b b' request ticks s t r u alike h k =
       (waits (nat_lt ticks most_ticks) request ticks s t r u h.0 k.0, calls.still call AreAlike answers a a' b b' alike h.1 k.1)
   attached_as (Ok Busy) a a' b b' request ticks s t r u alike h k = (refused refusals.ServerBusy s t r u h.0 k.0, calls.still call AreAlike answers a a' b b' alike h.1 k.1)

@@ -40,14 +40,14 @@ no_next : (old : Contents Held) (entry : ℕ × Held) → IsNextResend old None 
 no_next old entry none some = none_cons entry some.1.0 (sym (none some.0) ∙ some.1.1)
 
 -- what waits is sent again
-sent_again : (ps qs : List Packet) (old new new' : Contents Held) → SendsAgain old ps new → SendsAgain old qs new' → (ps ≡ qs) × (new ≡ new')
-sent_again [] [] old new new' h k = (refl, h.1 ∙ sym k.1)
-sent_again [] (q ∷ qs) old new new' h k = absurd (no_next old k.0 h.0 k.1)
-sent_again (p ∷ ps) [] old new new' h k = absurd (no_next old h.0 k.0 h.1)
-sent_again (p ∷ ps) (q ∷ qs) old new new' h k =
+sent_again : (now : ℕ) (ps qs : List Packet) (old new new' : Contents Held) → SendsAgain now old ps new → SendsAgain now old qs new' → (ps ≡ qs) × (new ≡ new')
+sent_again now [] [] old new new' h k = (refl, h.1 ∙ sym k.1)
+sent_again now [] (q ∷ qs) old new new' h k = absurd (no_next old k.0 h.0 k.1)
+sent_again now (p ∷ ps) [] old new new' h k = absurd (no_next old h.0 k.0 h.1)
+sent_again now (p ∷ ps) (q ∷ qs) old new new' h k =
     let entry = next_is old h.0 k.0 h.1 k.1 in
-    let packet : p ≡ q = h.2 ∙ ap (λ (e : ℕ × Held). job true e.1.message e.1.subscription e.0) entry ∙ sym k.2 in
-    let rest = sent_again ps qs (after_resend old (Some h.0)) new new' h.3 (subst (λ (e : ℕ × Held). SendsAgain (after_resend old (Some e)) qs new') (sym entry) k.3) in
+    let packet : p ≡ q = h.2 ∙ ap (λ (e : ℕ × Held). job now true e.1.message e.1.subscription e.0) entry ∙ sym k.2 in
+    let rest = sent_again now ps qs (after_resend old (Some h.0)) new new' h.3 (subst (λ (e : ℕ × Held). SendsAgain now (after_resend old (Some e)) qs new') (sym entry) k.3) in
     (λ i. packet i ∷ rest.0 i, rest.1)
 
 no_yes : false ≡ true → ⊥
@@ -162,7 +162,7 @@ module _ {S P : Type 0} (call : S → SupplyCall P → S → Type 0) (AreAlike :
         let one = looked_for a a' b b' place p q (Some h.envelope) (Some k.envelope) alike h.found k.found in
         let envelope = same_Some h.envelope k.envelope one.1 in
         let identifier = one_identifier (identifiers (held_of window)) h.identifier k.identifier h.free k.free in (
-          h.sent ∙ (λ i. job false (envelope i).message terms.subscription (identifier i)) ∙ sym k.sent,
+          h.sent ∙ (λ i. job terms.at false (envelope i).message terms.subscription (identifier i)) ∙ sym k.sent,
           one.0,
           h.put ∙ (λ i. after_put window (identifier i) (under terms.subscription (envelope i))) ∙ sym k.put,
           one.2,
@@ -213,6 +213,6 @@ module _ {S P : Type 0} (call : S → SupplyCall P → S → Type 0) (AreAlike :
   pub handed_out : (terms : HandOutTerms) (old : Membership P) (a a' b b' : S) (window w v : Contents Held) (xs ys : List Packet) (m n : Membership P) → AreAlike a b
       → HandsOut call terms a old window xs m w a' → HandsOut call terms b old window ys n v b' → (xs ≡ ys) × (m ≡ n) × (w ≡ v) × AreAlike a' b'
   handed_out terms old a a' b b' window w v xs ys m n alike h k =
-      let again = sent_again h.again k.again window h.between k.between h.sent_again k.sent_again in
+      let again = sent_again terms.at h.again k.again window h.between k.between h.sent_again k.sent_again in
       let fresh = handed_fresh terms old a a' b b' h.between w v h.fresh k.fresh m n alike h.sent_fresh (subst (λ t. HandsFresh call terms b old t k.fresh n v b') (sym again.1) k.sent_fresh) in
       (h.both ∙ (λ i. again.0 i ++ fresh.0 i) ∙ sym k.both, fresh.1, fresh.2, fresh.3)

@@ -72,22 +72,21 @@ module _ {S P : Type 0} (call : S → SupplyCall P → S → Type 0) (AreAlike :
       let rest = offered slots h.1 a' k.1 b' connection message h.3 k.3 one.1 h.6 k.6 in
       (h.7 ∙ (λ i. first i + rest.0 i) ∙ sym k.7, rest.1)
 
-  offered_to : (a a' b b' : S) (connection : ℕ) (publish : Publish) (identifier : ℕ) (r u : Reply) → AreAlike a b
-      → IsOffered call a connection publish identifier r a' → IsOffered call b connection publish identifier u b' → (r ≡ u) × AreAlike a' b'
-  offered_to a a' b b' connection publish identifier r u alike h k =
+  offered_to : (a a' b b' : S) (connection now : ℕ) (publish : Publish) (identifier : ℕ) (r u : Reply) → AreAlike a b
+      → IsOffered call a connection now publish identifier r a' → IsOffered call b connection now publish identifier u b' → (r ≡ u) × AreAlike a' b'
+  offered_to a a' b b' connection now publish identifier r u alike h k =
       let one = calls.matched call AreAlike answers a h.mid b k.mid publish.topic h.slots k.slots alike h.matched k.matched in
-      let taken = offered h.slots h.mid a' k.mid b' connection (message_of publish) h.taken k.taken one.1 h.offered (subst (λ slots. Offers call k.mid connection (message_of publish) slots k.taken b') (sym one.0) k.offered) in
+      let taken = offered h.slots h.mid a' k.mid b' connection (message_of now publish) h.taken k.taken one.1 h.offered (subst (λ slots. Offers call k.mid connection (message_of now publish) slots k.taken b') (sym one.0) k.offered) in
       (h.replied ∙ (λ i. acknowledging identifier (puback_code (length (one.0 i)) (taken.0 i))) ∙ sym k.replied, taken.1)
 
-  answered : (which : PublishAnswer) (a a' b b' : S) (connection : ℕ) (publish : Publish) (r u : Reply) → AreAlike a b
-      → AnswersPublish call a connection publish which r a' → AnswersPublish call b connection publish which u b' → (r ≡ u) × AreAlike a' b'
-  answered (answer.Close code) a a' b b' connection publish r u alike h k = (h.0 ∙ sym k.0, calls.still call AreAlike answers a a' b b' alike h.1 k.1)
-  answered (answer.Refuse identifier code) a a' b b' connection publish r u alike h k = (h.0 ∙ sym k.0, calls.still call AreAlike answers a a' b b' alike h.1 k.1)
-  answered (answer.Offer identifier) a a' b b' connection publish r u alike h k = offered_to a a' b b' connection publish identifier r u alike h k
+  answered : (which : PublishAnswer) (a a' b b' : S) (connection now : ℕ) (publish : Publish) (r u : Reply) → AreAlike a b
+      → AnswersPublish call a connection now publish which r a' → AnswersPublish call b connection now publish which u b' → (r ≡ u) × AreAlike a' b'
+  answered (answer.Close code) a a' b b' connection now publish r u alike h k = (h.0 ∙ sym k.0, calls.still call AreAlike answers a a' b b' alike h.1 k.1)
+  answered (answer.Offer identifier) a a' b b' connection now publish r u alike h k = offered_to a a' b b' connection now publish identifier r u alike h k
 
-  pub published : (a a' b b' : S) (connection : ℕ) (publish : Publish) (r u : Reply) → AreAlike a b
-      → Publishes call a connection publish r a' → Publishes call b connection publish u b' → (r ≡ u) × AreAlike a' b'
-  published a a' b b' connection publish r u alike h k = answered (publish_answer publish) a a' b b' connection publish r u alike h k
+  pub published : (a a' b b' : S) (connection now : ℕ) (publish : Publish) (r u : Reply) → AreAlike a b
+      → Publishes call a connection now publish r a' → Publishes call b connection now publish u b' → (r ≡ u) × AreAlike a' b'
+  published a a' b b' connection now publish r u alike h k = answered (publish_answer publish) a a' b b' connection now publish r u alike h k
 
   -- a PUBACK
   settled : (found : Option Held) (a a' b b' : S) (place p q : P) (code : ℕ) → AreAlike a b → Settles call a place code found p a' → Settles call b place code found q b' → (p ≡ q) × AreAlike a' b'

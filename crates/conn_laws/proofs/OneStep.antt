@@ -63,30 +63,30 @@ module _ {S P : Type 0} (call : S → SupplyCall P → S → Type 0) (AreAlike :
   no_business : (a a' b b' : S) (connected m n : ConnectedClient P) (r u closing : Reply) → AreAlike a b → (m ≡ connected) × (r ≡ closing) × (a' ≡ a) → (n ≡ connected) × (u ≡ closing) × (b' ≡ b) → (m ≡ n) × (r ≡ u) × AreAlike a' b'
   no_business a a' b b' connected m n r u closing alike h k = (h.0 ∙ sym k.0, h.1 ∙ sym k.1, calls.still call AreAlike answers a a' b b' alike h.2 k.2)
 
-  answered : (packet : Packet) (a a' b b' : S) (number : ℕ) (connected m n : ConnectedClient P) (r u : Reply) → AreAlike a b
-      → Answers call slot_of a number connected packet m r a' → Answers call slot_of b number connected packet n u b' → (m ≡ n) × (r ≡ u) × AreAlike a' b'
-  answered (packets.Publish publish) a a' b b' number connected m n r u alike h k =
-      let one = messages.published call AreAlike answers a a' b b' number publish r u alike h.0 k.0 in (h.1 ∙ sym k.1, one.0, one.1)
-  answered (packets.Puback puback) a a' b b' number connected m n r u alike h k =
+  answered : (packet : Packet) (a a' b b' : S) (number now : ℕ) (connected m n : ConnectedClient P) (r u : Reply) → AreAlike a b
+      → Answers call slot_of a number connected now packet m r a' → Answers call slot_of b number connected now packet n u b' → (m ≡ n) × (r ≡ u) × AreAlike a' b'
+  answered (packets.Publish publish) a a' b b' number now connected m n r u alike h k =
+      let one = messages.published call AreAlike answers a a' b b' number now publish r u alike h.0 k.0 in (h.1 ∙ sym k.1, one.0, one.1)
+  answered (packets.Puback puback) a a' b b' number now connected m n r u alike h k =
       let one = messages.acknowledged call AreAlike answers a a' b b' connected.session h.0 k.0 puback.packet_identifier puback.reason_code alike h.1 k.1 in
       (h.2 ∙ ap (with_session connected) one.0 ∙ sym k.2, h.3 ∙ sym k.3, one.1)
-  answered (packets.Subscribe subscribe) a a' b b' number connected m n r u alike h k =
+  answered (packets.Subscribe subscribe) a a' b b' number now connected m n r u alike h k =
       let one = shares.subscribed call AreAlike answers slot_of a a' b b' connected.session.membership connected.session.subscription subscribe r u h.0 k.0 h.1 k.1 alike h.2 k.2 in
       (h.3 ∙ (λ i. subscribing connected (one.1 i) (one.2 i)) ∙ sym k.3, one.0, one.3)
-  answered (packets.Unsubscribe unsubscribe) a a' b b' number connected m n r u alike h k =
+  answered (packets.Unsubscribe unsubscribe) a a' b b' number now connected m n r u alike h k =
       let one = shares.unsubscribed call AreAlike answers slot_of a a' b b' connected.session.membership unsubscribe r u h.0 k.0 alike h.1 k.1 in
       (h.2 ∙ ap (joining connected) one.1 ∙ sym k.2, one.0, one.2)
-  answered packets.Pingreq a a' b b' number connected m n r u alike h k = no_business a a' b b' connected m n r u _ alike h k
-  answered (packets.Disconnect disconnect) a a' b b' number connected m n r u alike h k =
+  answered packets.Pingreq a a' b b' number now connected m n r u alike h k = no_business a a' b b' connected m n r u _ alike h k
+  answered (packets.Disconnect disconnect) a a' b b' number now connected m n r u alike h k =
       let one = disconnected disconnect.properties.session_expiry_interval connected m n r u h.0 k.0 in (one.0, one.1, calls.still call AreAlike answers a a' b b' alike h.1 k.1)
-  answered (packets.Connect connect) a a' b b' number connected m n r u alike h k = no_business a a' b b' connected m n r u _ alike h k
-  answered (packets.Connack connack) a a' b b' number connected m n r u alike h k = no_business a a' b b' connected m n r u _ alike h k
-  answered (packets.Suback suback) a a' b b' number connected m n r u alike h k = no_business a a' b b' connected m n r u _ alike h k
-  answered (packets.Unsuback unsuback) a a' b b' number connected m n r u alike h k = no_business a a' b b' connected m n r u _ alike h k
-  answered packets.Pingresp a a' b b' number connected m n r u alike h k = no_business a a' b b' connected m n r u _ alike h k
-  answered (packets.Foreign kind) a a' b b' number connected m n r u alike h k = no_business a a' b b' connected m n r u _ alike h k
-  answered (packets.OtherVersion version) a a' b b' number connected m n r u alike h k = no_business a a' b b' connected m n r u _ alike h k
-  answered packets.WithWill a a' b b' number connected m n r u alike h k = no_business a a' b b' connected m n r u _ alike h k
+  answered (packets.Connect connect) a a' b b' number now connected m n r u alike h k = no_business a a' b b' connected m n r u _ alike h k
+  answered (packets.Connack connack) a a' b b' number now connected m n r u alike h k = no_business a a' b b' connected m n r u _ alike h k
+  answered (packets.Suback suback) a a' b b' number now connected m n r u alike h k = no_business a a' b b' connected m n r u _ alike h k
+  answered (packets.Unsuback unsuback) a a' b b' number now connected m n r u alike h k = no_business a a' b b' connected m n r u _ alike h k
+  answered packets.Pingresp a a' b b' number now connected m n r u alike h k = no_business a a' b b' connected m n r u _ alike h k
+  answered (packets.Foreign kind) a a' b b' number now connected m n r u alike h k = no_business a a' b b' connected m n r u _ alike h k
+  answered (packets.OtherVersion version) a a' b b' number now connected m n r u alike h k = no_business a a' b b' connected m n r u _ alike h k
+  answered packets.WithWill a a' b b' number now connected m n r u alike h k = no_business a a' b b' connected m n r u _ alike h k
 
   parted : (a a' b b' : S) (connected : ConnectedClient P) (now : ℕ) (s t : ConnPhase P) → AreAlike a b → IsParted call slot_of a connected now s a' → IsParted call slot_of b connected now t b' → (s ≡ t) × AreAlike a' b'
   parted a a' b b' connected now s t alike h k = (h.1 ∙ sym k.1, endings.parted call AreAlike answers a a' b b' connected.session now alike h.0 k.0)
@@ -100,7 +100,7 @@ module _ {S P : Type 0} (call : S → SupplyCall P → S → Type 0) (AreAlike :
   packet_answered : (a a' b b' : S) (number : ℕ) (connected : ConnectedClient P) (now : ℕ) (packet : Packet) (s t : ConnPhase P) (r u : Reply) → AreAlike a b
       → AnswersPacket call slot_of a number connected now packet s r a' → AnswersPacket call slot_of b number connected now packet t u b' → Agree s t r u a' b'
   packet_answered a a' b b' number connected now packet s t r u alike h k =
-      let one = answered packet a h.1 b k.1 number (hearing connected now) h.0 k.0 r u alike h.2 k.2 in
+      let one = answered packet a h.1 b k.1 number now (hearing connected now) h.0 k.0 r u alike h.2 k.2 in
       let done = concluded r.next h.1 a' k.1 b' h.0 now s t one.2 h.3
       (subst (λ l. Concludes call slot_of k.1 l now r.next t b') (sym one.0) (subst (λ (w : Reply). Concludes call slot_of k.1 k.0 now w.next t b') (sym one.1) k.3)) in
       ((done.0, one.1), done.1)
@@ -162,14 +162,14 @@ module _ {S P : Type 0} (call : S → SupplyCall P → S → Type 0) (AreAlike :
   reacted (Connected connected) inputs.Closing a a' b b' number now s t r u alike h k = ((h.2 ∙ sym k.2, h.0 ∙ sym k.0), calls.parked_as_is call AreAlike answers a a' b b' (down connected.session) alike h.1 k.1)
   reacted Ended input a a' b b' number now s t r u alike h k = (closed s t r u h.0 k.0, calls.still call AreAlike answers a a' b b' alike h.1 k.1)
 
-  handed : (phase : ConnPhase P) (a a' b b' : S) (xs ys : List Packet) (s t : ConnPhase P) → AreAlike a b
-      → Hands call slot_of a phase xs s a' → Hands call slot_of b phase ys t b' → (xs ≡ ys) × (s ≡ t) × AreAlike a' b'
-  handed (Unconnected opened) a a' b b' xs ys s t alike h k = (h.0 ∙ sym k.0, h.1 ∙ sym k.1, calls.still call AreAlike answers a a' b b' alike h.2 k.2)
-  handed (Waiting request ticks) a a' b b' xs ys s t alike h k = (h.0 ∙ sym k.0, h.1 ∙ sym k.1, calls.still call AreAlike answers a a' b b' alike h.2 k.2)
-  handed (Connected connected) a a' b b' xs ys s t alike h k =
-      let one = hand_outs.handed_out call AreAlike answers (hand_out_terms connected) connected.session.membership a a' b b' connected.session.window h.1 k.1 xs ys h.0 k.0 alike h.2 k.2 in
+  handed : (phase : ConnPhase P) (now : ℕ) (a a' b b' : S) (xs ys : List Packet) (s t : ConnPhase P) → AreAlike a b
+      → Hands call slot_of a phase now xs s a' → Hands call slot_of b phase now ys t b' → (xs ≡ ys) × (s ≡ t) × AreAlike a' b'
+  handed (Unconnected opened) now a a' b b' xs ys s t alike h k = (h.0 ∙ sym k.0, h.1 ∙ sym k.1, calls.still call AreAlike answers a a' b b' alike h.2 k.2)
+  handed (Waiting request ticks) now a a' b b' xs ys s t alike h k = (h.0 ∙ sym k.0, h.1 ∙ sym k.1, calls.still call AreAlike answers a a' b b' alike h.2 k.2)
+  handed (Connected connected) now a a' b b' xs ys s t alike h k =
+      let one = hand_outs.handed_out call AreAlike answers (hand_out_terms connected now) connected.session.membership a a' b b' connected.session.window h.1 k.1 xs ys h.0 k.0 alike h.2 k.2 in
       (one.0, h.3 ∙ (λ i. Connected (after_hand_out connected (one.1 i) (one.2 i))) ∙ sym k.3, one.3)
-  handed Ended a a' b b' xs ys s t alike h k = (h.0 ∙ sym k.0, h.1 ∙ sym k.1, calls.still call AreAlike answers a a' b b' alike h.2 k.2)
+  handed Ended now a a' b b' xs ys s t alike h k = (h.0 ∙ sym k.0, h.1 ∙ sym k.1, calls.still call AreAlike answers a a' b b' alike h.2 k.2)
 
   -- the packets, what becomes of the connection, its phase, and what it shares
   abbrev pub AreOneStep : List Packet → List Packet → Then → Then → ConnPhase P → ConnPhase P → S → S → Type 0
@@ -179,7 +179,7 @@ module _ {S P : Type 0} (call : S → SupplyCall P → S → Type 0) (AreAlike :
       → Steps call slot_of a number phase now input xs next s a' → Steps call slot_of b number phase now input ys next' t b' → AreOneStep xs ys next next' s t a' b'
   stepped a a' b b' number phase now input xs ys next next' s t alike h k =
       let one = reacted phase input a h.mid b k.mid number now h.between k.between h.reply k.reply alike h.reacts k.reacts in
-      let hands = handed h.between h.mid a' k.mid b' h.sent k.sent s t one.1 h.hands (subst (λ x. Hands call slot_of k.mid x k.sent t b') (sym one.0.0) k.hands) in (
+      let hands = handed h.between now h.mid a' k.mid b' h.sent k.sent s t one.1 h.hands (subst (λ x. Hands call slot_of k.mid x now k.sent t b') (sym one.0.0) k.hands) in (
         h.written ∙ (λ i. option_to_list (one.0.1 i).packet ++ hands.0 i) ∙ sym k.written,
         h.followed ∙ ap (λ (w : Reply). w.next) one.0.1 ∙ sym k.followed,
         hands.1,

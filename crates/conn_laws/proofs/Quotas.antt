@@ -53,9 +53,9 @@ acked quota window window' identifier (Some item) acks keeps =
     (record { is = keeps.is; kept = (let fewer = length-entries_without identifier window.owed in let kept = keeps.kept in omega (arith, fewer, kept)) })
 acked quota window window' identifier None acks keeps = subst (KeepsQuota quota) (sym acks.1) keeps
 
-again : (sent : List Packet) (quota : ℕ) (old new : Contents Held) → SendsAgain old sent new → KeepsQuota quota old → KeepsQuota quota new
-again [] quota old new sends keeps = subst (KeepsQuota quota) (sym sends.1) keeps
-again (packet ∷ packets) quota old new sends keeps = again packets quota (after_resend old (Some sends.0)) new sends.3 (resent quota old sends.0 keeps sends.1.0)
+again : (now : ℕ) (sent : List Packet) (quota : ℕ) (old new : Contents Held) → SendsAgain now old sent new → KeepsQuota quota old → KeepsQuota quota new
+again now [] quota old new sends keeps = subst (KeepsQuota quota) (sym sends.1) keeps
+again now (packet ∷ packets) quota old new sends keeps = again now packets quota (after_resend old (Some sends.0)) new sends.3 (resent quota old sends.0 keeps sends.1.0)
 
 -- the phase is another in nothing that counts here
 ended : {P : Type 0} (phase : ConnPhase P) → phase ≡ Ended → IsWithinQuota phase
@@ -79,15 +79,15 @@ module _ {S P : Type 0} (call : S → SupplyCall P → S → Type 0) (slot_of : 
   handed_fresh terms (Member place) quota old new window window' sent membership' hands keeps = fresh terms sent quota old new place hands.0 window window' hands.2 keeps
   handed_fresh terms (Leaving place) quota old new window window' sent membership' hands keeps = subst (KeepsQuota quota) (sym hands.1) keeps
 
-  handed : (phase phase' : ConnPhase P) (old new : S) (sent : List Packet) → Hands call slot_of old phase sent phase' new → IsWithinQuota phase → IsWithinQuota phase'
-  handed (Unconnected opened) phase' old new sent hands within = subst IsWithinQuota (sym hands.1) tt
-  handed (Waiting request ticks) phase' old new sent hands within = subst IsWithinQuota (sym hands.1) tt
-  handed (Connected connected) phase' old new sent hands within =
+  handed : (phase phase' : ConnPhase P) (now : ℕ) (old new : S) (sent : List Packet) → Hands call slot_of old phase now sent phase' new → IsWithinQuota phase → IsWithinQuota phase'
+  handed (Unconnected opened) phase' now old new sent hands within = subst IsWithinQuota (sym hands.1) tt
+  handed (Waiting request ticks) phase' now old new sent hands within = subst IsWithinQuota (sym hands.1) tt
+  handed (Connected connected) phase' now old new sent hands within =
       let out = hands.2 in
       subst IsWithinQuota (sym hands.3)
-      (handed_fresh (hand_out_terms connected) connected.session.membership (quota_of connected.terms) old new out.between hands.1 out.fresh hands.0 out.sent_fresh
-      (again out.again (quota_of connected.terms) connected.session.window out.between out.sent_again within))
-  handed Ended phase' old new sent hands within = ended phase' hands.1
+      (handed_fresh (hand_out_terms connected now) connected.session.membership (quota_of connected.terms) old new out.between hands.1 out.fresh hands.0 out.sent_fresh
+      (again now out.again (quota_of connected.terms) connected.session.window out.between out.sent_again within))
+  handed Ended phase' now old new sent hands within = ended phase' hands.1
 
   -- a connection that begins has sent nothing yet
   accepted : (request : ConnectRequest) (present : Bool) (session : Session Held P) (phase : ConnPhase P) (reply : Reply) → Accepts request present session phase reply → IsWithinQuota phase
@@ -142,25 +142,25 @@ module _ {S P : Type 0} (call : S → SupplyCall P → S → Type 0) (slot_of : 
   disconnects None connected connected' reply does within = same connected connected' does.0 within
   disconnects (Some seconds) connected connected' reply does within = disconnects_if _ connected connected' seconds reply does within
 
-  answered : (packet : Packet) (old new : S) (number : ℕ) (connected connected' : ConnectedClient P) (reply : Reply) → Answers call slot_of old number connected packet connected' reply new
+  answered : (packet : Packet) (old new : S) (number now : ℕ) (connected connected' : ConnectedClient P) (reply : Reply) → Answers call slot_of old number connected now packet connected' reply new
       → IsWithinQuota (Connected connected) → IsWithinQuota (Connected connected')
-  answered (packets.Publish publish) old new number connected connected' reply answers within = same connected connected' answers.1 within
-  answered (packets.Puback puback) old new number connected connected' reply answers within =
+  answered (packets.Publish publish) old new number now connected connected' reply answers within = same connected connected' answers.1 within
+  answered (packets.Puback puback) old new number now connected connected' reply answers within =
       subst (λ l. IsWithinQuota (Connected l)) (sym answers.2)
       (acknowledged connected.session.membership (quota_of connected.terms) old new connected.session.window answers.0.window puback.packet_identifier puback.reason_code answers.0.membership
       answers.1.settles within)
-  answered (packets.Subscribe subscribe) old new number connected connected' reply answers within = subst (λ l. IsWithinQuota (Connected l)) (sym answers.3) within
-  answered (packets.Unsubscribe unsubscribe) old new number connected connected' reply answers within = subst (λ l. IsWithinQuota (Connected l)) (sym answers.2) within
-  answered packets.Pingreq old new number connected connected' reply answers within = same connected connected' answers.0 within
-  answered (packets.Disconnect disconnect) old new number connected connected' reply answers within = disconnects disconnect.properties.session_expiry_interval connected connected' reply answers.0 within
-  answered (packets.Connect connect) old new number connected connected' reply answers within = same connected connected' answers.0 within
-  answered (packets.Connack connack) old new number connected connected' reply answers within = same connected connected' answers.0 within
-  answered (packets.Suback suback) old new number connected connected' reply answers within = same connected connected' answers.0 within
-  answered (packets.Unsuback unsuback) old new number connected connected' reply answers within = same connected connected' answers.0 within
-  answered packets.Pingresp old new number connected connected' reply answers within = same connected connected' answers.0 within
-  answered (packets.Foreign kind) old new number connected connected' reply answers within = same connected connected' answers.0 within
-  answered (packets.OtherVersion version) old new number connected connected' reply answers within = same connected connected' answers.0 within
-  answered packets.WithWill old new number connected connected' reply answers within = same connected connected' answers.0 within
+  answered (packets.Subscribe subscribe) old new number now connected connected' reply answers within = subst (λ l. IsWithinQuota (Connected l)) (sym answers.3) within
+  answered (packets.Unsubscribe unsubscribe) old new number now connected connected' reply answers within = subst (λ l. IsWithinQuota (Connected l)) (sym answers.2) within
+  answered packets.Pingreq old new number now connected connected' reply answers within = same connected connected' answers.0 within
+  answered (packets.Disconnect disconnect) old new number now connected connected' reply answers within = disconnects disconnect.properties.session_expiry_interval connected connected' reply answers.0 within
+  answered (packets.Connect connect) old new number now connected connected' reply answers within = same connected connected' answers.0 within
+  answered (packets.Connack connack) old new number now connected connected' reply answers within = same connected connected' answers.0 within
+  answered (packets.Suback suback) old new number now connected connected' reply answers within = same connected connected' answers.0 within
+  answered (packets.Unsuback unsuback) old new number now connected connected' reply answers within = same connected connected' answers.0 within
+  answered packets.Pingresp old new number now connected connected' reply answers within = same connected connected' answers.0 within
+  answered (packets.Foreign kind) old new number now connected connected' reply answers within = same connected connected' answers.0 within
+  answered (packets.OtherVersion version) old new number now connected connected' reply answers within = same connected connected' answers.0 within
+  answered packets.WithWill old new number now connected connected' reply answers within = same connected connected' answers.0 within
 
   concluded : (next : Then) (old new : S) (connected : ConnectedClient P) (now : ℕ) (phase : ConnPhase P) → Concludes call slot_of old connected now next phase new → IsWithinQuota (Connected connected) → IsWithinQuota phase
   concluded Go old new connected now phase concludes within = subst IsWithinQuota (sym concludes.0) within
@@ -170,7 +170,7 @@ module _ {S P : Type 0} (call : S → SupplyCall P → S → Type 0) (slot_of : 
   answered_packet : (old new : S) (number : ℕ) (connected : ConnectedClient P) (now : ℕ) (packet : Packet) (phase : ConnPhase P) (reply : Reply)
       → AnswersPacket call slot_of old number connected now packet phase reply new → IsWithinQuota (Connected connected) → IsWithinQuota phase
   answered_packet old new number connected now packet phase reply answers within =
-      concluded reply.next answers.1 new answers.0 now phase answers.3 (answered packet old answers.1 number (hearing connected now) answers.0 reply answers.2 within)
+      concluded reply.next answers.1 new answers.0 now phase answers.3 (answered packet old answers.1 number now (hearing connected now) answers.0 reply answers.2 within)
 
   heard : (silent : Bool) (old new : S) (connected : ConnectedClient P) (now : ℕ) (phase : ConnPhase P) (reply : Reply) → IsHeard call slot_of silent old connected now phase reply new
       → IsWithinQuota (Connected connected) → IsWithinQuota phase
@@ -207,4 +207,4 @@ module _ {S P : Type 0} (call : S → SupplyCall P → S → Type 0) (slot_of : 
   pub within : (number now : ℕ) (phase phase' : ConnPhase P) (input : Input) (sent : List Packet) (next : Then) (old new : S)
       → Steps call slot_of old number phase now input sent next phase' new → IsWithinQuota phase → IsWithinQuota phase'
   within number now phase phase' input sent next old new steps kept =
-      handed steps.between phase' steps.mid new steps.sent steps.hands (reacted phase input old steps.mid number now steps.between steps.reply steps.reacts kept)
+      handed steps.between phase' now steps.mid new steps.sent steps.hands (reacted phase input old steps.mid number now steps.between steps.reply steps.reacts kept)

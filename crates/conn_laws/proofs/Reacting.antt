@@ -65,7 +65,7 @@ module _ {S P : Type 0} (call : S → SupplyCall P → S → Type 0) where
   pub record SessionStepped (old : S) (number : ℕ) (phase : ConnPhase P) (input : Input) (next : Then) (phase' : ConnPhase P) (new : S) : Type 0 where
     pub marks : List (Mark Held)
     pub session : SessionSteps call old number (connected_of phase) (connected_of phase') marks new
-    pub no_publish : publishes_of marks ≡ []
+    pub no_publish : (now : ℕ) → publishes_of now marks ≡ []
     pub none_fresh : fresh_of marks ≡ []
     pub supply_calls : List (SupplyCall P)
     pub made : MakesAll call old supply_calls new
@@ -150,7 +150,7 @@ module _ {S P : Type 0} (call : S → SupplyCall P → S → Type 0) where
           marks_are = refl;
           within = (tt, tt);
         };
-        no_publish = refl;
+        no_publish = λ now. refl;
         none_fresh = refl;
         supply_calls = earlier.calls.supply_calls ++ settling ∷ [];
         made = joins call earlier.calls.supply_calls (settling ∷ []) old mid new earlier.calls.made (new, does.settled, refl);
@@ -172,11 +172,10 @@ module _ {S P : Type 0} (call : S → SupplyCall P → S → Type 0) where
   offered (slot ∷ slots) old new number message taken offers =
       apart_behind call old offers.1 new (apart_one call old offers.1 _ offers.4 tt refl refl) (offered slots offers.1 new number message offers.3 offers.6)
 
-  published : (answer : PublishAnswer) (old new : S) (number : ℕ) (publish : Publish) (reply : Reply) → AnswersPublish call old number publish answer reply new → Apart call old new
-  published (answers.Close code) old new number publish reply does = still call old new does.1
-  published (answers.Refuse identifier code) old new number publish reply does = still call old new does.1
-  published (answers.Offer identifier) old new number publish reply does =
-      apart_behind call old does.mid new (apart_one call old does.mid _ does.matched tt refl refl) (offered does.slots does.mid new number (message_of publish) does.taken does.offered)
+  published : (answer : PublishAnswer) (old new : S) (number now : ℕ) (publish : Publish) (reply : Reply) → AnswersPublish call old number now publish answer reply new → Apart call old new
+  published (answers.Close code) old new number now publish reply does = still call old new does.1
+  published (answers.Offer identifier) old new number now publish reply does =
+      apart_behind call old does.mid new (apart_one call old does.mid _ does.matched tt refl refl) (offered does.slots does.mid new number (message_of now publish) does.taken does.offered)
 
   disconnected_if : (given : Bool) (old new : S) (connected after : ConnectedClient P) (seconds : ℕ) (reply : Reply) → DisconnectsIf given connected seconds after reply → new ≡ old → Kept old connected.session after new
   disconnected_if true old new connected after seconds reply does same = kept old new connected.session after _ does.0 refl refl (still call old new same)
@@ -191,10 +190,10 @@ module _ {S P : Type 0} (call : S → SupplyCall P → S → Type 0) where
   SettlesBy old connected packet after reply new = (puback : Puback) × (packet ≡ packets.Puback puback) × Settled old connected puback after new × (reply.next ≡ Go)
 
   module _ (slot_of : P → ℕ) where
-    answered : (packet : Packet) (old new : S) (number now : ℕ) (connected after : ConnectedClient P) (reply : Reply) → Answers call slot_of old number (hearing connected now) packet after reply new
+    answered : (packet : Packet) (old new : S) (number now : ℕ) (connected after : ConnectedClient P) (reply : Reply) → Answers call slot_of old number (hearing connected now) now packet after reply new
         → (Kept old connected.session after new × NoneConfirmed connected packet) ⊎ SettlesBy old connected packet after reply new
     answered (packets.Publish publish) old new number now connected after reply is =
-        inl (kept old new connected.session after _ is.1 refl refl (published (publish_answer publish) old new number publish reply is.0), λ e f c. c)
+        inl (kept old new connected.session after _ is.1 refl refl (published (publish_answer publish) old new number now publish reply is.0), λ e f c. c)
     answered (packets.Puback puback) old new number now connected after reply is =
         ⊎_elim
         (λ (keeps : Kept old connected.session after new × NoneConfirmed connected (packets.Puback puback)). inl keeps)

@@ -6,7 +6,6 @@ use Rattle.mqtt_packet.specs.declared.packet.Packet.{Packet}
 use Rattle.mqtt_packet.specs.declared.packet.Packet.TheVariants as packets
 use Rattle.mqtt_packet.specs.declared.packet.ConnectRefusal.{ConnectRefusal}
 use Rattle.group_jobs.specs.Stamps.{Held}
-use Rattle.group_jobs.specs.declared.message.Message.{Message}
 use Rattle.session_desk.specs.declared.attached.Attached.{Attached}
 use Rattle.session_desk.specs.declared.attached.Attached.TheVariants.{New, Resumed, Replace, Busy}
 use Rattle.session_desk.specs.declared.error.DeskError.{DeskError}
@@ -36,9 +35,9 @@ use Rattle.conn_engine.specs.declared.phase.Opening.{Opening}
 use Rattle.conn_engine.specs.declared.phase.ConnPhase.{ConnPhase}
 use Rattle.conn_engine.specs.declared.phase.ConnPhase.TheVariants.{Unconnected, Waiting, Connected, Ended}
 use Rattle.conn_engine.specs.Answering.{DisconnectsIf, Disconnects, Answers}
-use Rattle.conn_engine.specs.Connecting.{holds_big, most_ticks, IsRefused, Accepts, WaitsAs, ResumesAs, AttachedAs}
+use Rattle.conn_engine.specs.Connecting.{holds_message_too_long, most_ticks, IsRefused, Accepts, WaitsAs, ResumesAs, AttachedAs}
 use Rattle.conn_engine.specs.Step.{hearing, IsClosed, IsRefusedIf, WaitsForConnect, AnswersFirst, AnswersPacket, AnswersTick, AnswersUnlessKicked, IsHeard, Reacts}
-use Rattle.conn_laws.specs.Calls.{fresh_message, fresh_messages}
+use Rattle.conn_laws.specs.Calls.{Content, fresh_content, fresh_contents}
 use Rattle.conn_laws.specs.Marks.{publishes_in}
 
 -- the packet of a reply, if there is one, is no PUBLISH
@@ -46,7 +45,7 @@ abbrev pub BringsNone : Reply → Type 0
 BringsNone reply = publishes_in (option_to_list reply.packet) ≡ []
 
 -- no other packet brings a message
-none_fresh : (packet : Option Packet) → publishes_in (option_to_list packet) ≡ [] → fresh_messages (option_to_list packet) ≡ []
+none_fresh : (packet : Option Packet) → publishes_in (option_to_list packet) ≡ [] → fresh_contents (option_to_list packet) ≡ []
 none_fresh None is = refl
 none_fresh (Some (packets.Publish publish)) is = cc
 none_fresh (Some packet) is = refl
@@ -95,7 +94,7 @@ module _ {S P : Type 0} (call : S → SupplyCall P → S → Type 0) (slot_of : 
       → AttachedAs call old request ticks answer phase reply new → BringsNone reply
   attached (Ok (New session ended)) old new request ticks phase reply is = accepts phase reply request false session is.1
   attached (Ok (Resumed session)) old new request ticks phase reply is =
-      resumes (holds_big request.terms.maximum_packet_size session.window) old new request session phase reply is
+      resumes (holds_message_too_long request.terms.maximum_packet_size session.window) old new request session phase reply is
   attached (Ok (Replace holder)) old new request ticks phase reply is = waits (nat_lt ticks most_ticks) phase reply request ticks is.0
   attached (Ok Busy) old new request ticks phase reply is = refuses phase reply _ is.0
   attached (Err errors.Full) old new request ticks phase reply is = refuses phase reply _ is.0
@@ -110,10 +109,9 @@ module _ {S P : Type 0} (call : S → SupplyCall P → S → Type 0) (slot_of : 
   answers_first first.Attach old new number max_inflight now packet phase reply is = attached is.2.answer is.2.mid new _ 0 phase reply is.2.answered
 
   -- what a connection with its session answers
-  published : (answer : PublishAnswer) (old new : S) (number : ℕ) (publish : Publish) (reply : Reply) → AnswersPublish call old number publish answer reply new → BringsNone reply
-  published (answers.Close code) old new number publish reply is = told reply _ is.0 refl
-  published (answers.Refuse identifier code) old new number publish reply is = told reply _ is.0 refl
-  published (answers.Offer identifier) old new number publish reply is = told reply _ is.replied refl
+  published : (answer : PublishAnswer) (old new : S) (number now : ℕ) (publish : Publish) (reply : Reply) → AnswersPublish call old number now publish answer reply new → BringsNone reply
+  published (answers.Close code) old new number now publish reply is = told reply _ is.0 refl
+  published (answers.Offer identifier) old new number now publish reply is = told reply _ is.replied refl
 
   subscribed : (refusal : Option ℕ) (old new : S) (membership membership' : Membership P) (subscription subscription' : Option ℕ) (subscribe : Subscribe) (reply : Reply)
       → SubscribesAs call slot_of refusal old membership subscription subscribe reply membership' subscription' new → BringsNone reply
@@ -125,23 +123,23 @@ module _ {S P : Type 0} (call : S → SupplyCall P → S → Type 0) (slot_of : 
   unsubscribed (Some code) old new membership membership' unsubscribe reply is = told reply _ is.0 refl
   unsubscribed None old new membership membership' unsubscribe reply is = told reply _ is.1 refl
 
-  answered : (packet : Packet) (old new : S) (number : ℕ) (connected after : ConnectedClient P) (reply : Reply) → Answers call slot_of old number connected packet after reply new → BringsNone reply
-  answered (packets.Publish publish) old new number connected after reply is = published (publish_answer publish) old new number publish reply is.0
-  answered (packets.Puback puback) old new number connected after reply is = told reply _ is.3 refl
-  answered (packets.Subscribe subscribe) old new number connected after reply is =
+  answered : (packet : Packet) (old new : S) (number now : ℕ) (connected after : ConnectedClient P) (reply : Reply) → Answers call slot_of old number connected now packet after reply new → BringsNone reply
+  answered (packets.Publish publish) old new number now connected after reply is = published (publish_answer publish) old new number now publish reply is.0
+  answered (packets.Puback puback) old new number now connected after reply is = told reply _ is.3 refl
+  answered (packets.Subscribe subscribe) old new number now connected after reply is =
       subscribed (subscribe_refusal subscribe) old new connected.session.membership is.0 connected.session.subscription is.1 subscribe reply is.2
-  answered (packets.Unsubscribe unsubscribe) old new number connected after reply is =
+  answered (packets.Unsubscribe unsubscribe) old new number now connected after reply is =
       unsubscribed (unsubscribe_refusal unsubscribe) old new connected.session.membership is.0 unsubscribe reply is.1
-  answered packets.Pingreq old new number connected after reply is = told reply _ is.1 refl
-  answered (packets.Disconnect disconnect) old new number connected after reply is = disconnects disconnect.properties.session_expiry_interval connected after reply is.0
-  answered (packets.Connect connect) old new number connected after reply is = told reply _ is.1 refl
-  answered (packets.Connack connack) old new number connected after reply is = told reply _ is.1 refl
-  answered (packets.Suback suback) old new number connected after reply is = told reply _ is.1 refl
-  answered (packets.Unsuback unsuback) old new number connected after reply is = told reply _ is.1 refl
-  answered packets.Pingresp old new number connected after reply is = told reply _ is.1 refl
-  answered (packets.Foreign kind) old new number connected after reply is = told reply _ is.1 refl
-  answered (packets.OtherVersion version) old new number connected after reply is = told reply _ is.1 refl
-  answered packets.WithWill old new number connected after reply is = told reply _ is.1 refl
+  answered packets.Pingreq old new number now connected after reply is = told reply _ is.1 refl
+  answered (packets.Disconnect disconnect) old new number now connected after reply is = disconnects disconnect.properties.session_expiry_interval connected after reply is.0
+  answered (packets.Connect connect) old new number now connected after reply is = told reply _ is.1 refl
+  answered (packets.Connack connack) old new number now connected after reply is = told reply _ is.1 refl
+  answered (packets.Suback suback) old new number now connected after reply is = told reply _ is.1 refl
+  answered (packets.Unsuback unsuback) old new number now connected after reply is = told reply _ is.1 refl
+  answered packets.Pingresp old new number now connected after reply is = told reply _ is.1 refl
+  answered (packets.Foreign kind) old new number now connected after reply is = told reply _ is.1 refl
+  answered (packets.OtherVersion version) old new number now connected after reply is = told reply _ is.1 refl
+  answered packets.WithWill old new number now connected after reply is = told reply _ is.1 refl
 
   heard : (overdue : Bool) (old new : S) (connected : ConnectedClient P) (now : ℕ) (phase : ConnPhase P) (reply : Reply) → IsHeard call slot_of overdue old connected now phase reply new → BringsNone reply
   heard true old new connected now phase reply is = told reply _ is.0 refl
@@ -167,7 +165,7 @@ module _ {S P : Type 0} (call : S → SupplyCall P → S → Type 0) (slot_of : 
   replied (Waiting request ticks) inputs.Closing old new number now between reply is = closes between reply is.1
   replied (Connected connected) (inputs.Packet packet) old new number now between reply is =
       unless_kicked is.0 is.1 new connected now _ between reply (λ (does : AnswersPacket call slot_of is.1 number connected now packet between reply new).
-      answered packet is.1 does.1 number (hearing connected now) does.0 reply does.2) is.3
+      answered packet is.1 does.1 number now (hearing connected now) does.0 reply does.2) is.3
   replied (Connected connected) (inputs.Fault fault) old new number now between reply is = told reply _ is.0 refl
   replied (Connected connected) inputs.Tick old new number now between reply is =
       unless_kicked is.0 is.1 new connected now _ between reply (λ (does : AnswersTick call slot_of is.1 connected now between reply new).
@@ -178,7 +176,7 @@ module _ {S P : Type 0} (call : S → SupplyCall P → S → Type 0) (slot_of : 
 
   -- with what is sent after the reply
   pub replied_and_sent : (phase : ConnPhase P) (input : Input) (old new : S) (number now : ℕ) (between : ConnPhase P) (reply : Reply) (sent : List Packet)
-      → Reacts call slot_of old number phase now input between reply new → fresh_messages (option_to_list reply.packet ++ sent) ≡ fresh_messages sent
+      → Reacts call slot_of old number phase now input between reply new → fresh_contents (option_to_list reply.packet ++ sent) ≡ fresh_contents sent
   replied_and_sent phase input old new number now between reply sent is =
-      filter_map-append fresh_message (option_to_list reply.packet) sent
-      ∙ ap (λ (before : List Message). before ++ fresh_messages sent) (none_fresh reply.packet (replied phase input old new number now between reply is))
+      filter_map-append fresh_content (option_to_list reply.packet) sent
+      ∙ ap (λ (before : List Content). before ++ fresh_contents sent) (none_fresh reply.packet (replied phase input old new number now between reply is))

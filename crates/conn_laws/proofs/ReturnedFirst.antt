@@ -184,14 +184,14 @@ module _ {S P : Type 0} (call : S → SupplyCall P → S → Type 0) where
           order = all_plain None calls.supply_calls calls.hands (settles_plainly phase input reply.next calls.supply_calls calls.settles);
         }
 
-    hands : (between : ConnPhase P) (old new : S) (sent : List Packet) (phase : ConnPhase P) → Hands call slot_of old between sent phase new → CallsReturnedFirst call old new
-    hands (Unconnected opened) old new sent phase is = none old new is.2
-    hands (Waiting request ticks) old new sent phase is = none old new is.2
-    hands (Connected connected) old new sent phase is = handed_fresh (hand_out_terms connected) connected.session.membership old new is.2.between is.2.fresh is.0 is.1 is.2.sent_fresh
-    hands Ended old new sent phase is = none old new is.2
+    hands : (between : ConnPhase P) (now : ℕ) (old new : S) (sent : List Packet) (phase : ConnPhase P) → Hands call slot_of old between now sent phase new → CallsReturnedFirst call old new
+    hands (Unconnected opened) now old new sent phase is = none old new is.2
+    hands (Waiting request ticks) now old new sent phase is = none old new is.2
+    hands (Connected connected) now old new sent phase is = handed_fresh (hand_out_terms connected now) connected.session.membership old new is.2.between is.2.fresh is.0 is.1 is.2.sent_fresh
+    hands Ended now old new sent phase is = none old new is.2
 
     pub stepped : (old new : S) (number now : ℕ) (phase phase' : ConnPhase P) (input : Input) (packets : List Packet) (next : Then)
         → Steps call slot_of old number phase now input packets next phase' new → CallsReturnedFirst call old new
     stepped old new number now phase phase' input packets next steps =
         behind old steps.mid new (reacts phase input old steps.mid number now steps.between steps.reply steps.reacts)
-        (hands steps.between steps.mid new steps.sent phase' steps.hands)
+        (hands steps.between now steps.mid new steps.sent phase' steps.hands)

@@ -36,9 +36,9 @@ module _ {S P : Type 0} (call : S → SupplyCall P → S → Type 0) where
   offered_some slots old new number message (inl nobody) = none call old new nobody
   offered_some slots old new number message (inr offers) = offered_first slots old new number message offers
 
-  cut_short : (old new : S) (number : ℕ) (publish : Publish) → IsCutShort call old number publish new → CallsReturnedFirst call old new
-  cut_short old new number publish cut =
-      behind call old cut.mid new (one call old cut.mid (Match publish.topic cut.slots) cut.matched tt) (offered_some cut.slots cut.mid new number (message_of publish) cut.offered)
+  cut_short : (old new : S) (number now : ℕ) (publish : Publish) → IsCutShort call old number now publish new → CallsReturnedFirst call old new
+  cut_short old new number now publish cut =
+      behind call old cut.mid new (one call old cut.mid (Match publish.topic cut.slots) cut.matched tt) (offered_some cut.slots cut.mid new number (message_of now publish) cut.offered)
 
   -- some messages are handed out, and then an allocation fails
   refused : (old new : S) (place place' : P) → IsRefused call old place place' new → CallsReturnedFirst call old new
@@ -84,9 +84,9 @@ module _ {S P : Type 0} (call : S → SupplyCall P → S → Type 0) where
     cut_off inputs.EndOfInput phase old new number now cuts = given_up phase old new number now cuts
     cut_off inputs.Closing phase old new number now cuts = shut_down phase old new number cuts
 
-    failed_to_answer : (packet : Packet) (old new : S) (number now : ℕ) (connected connected' : ConnectedClient P) → FailsToAnswer call slot_of old number (hearing connected now) packet connected' new
+    failed_to_answer : (packet : Packet) (old new : S) (number now : ℕ) (connected connected' : ConnectedClient P) → FailsToAnswer call slot_of old number (hearing connected now) now packet connected' new
         → CallsReturnedFirst call old new
-    failed_to_answer (packets.Publish publish) old new number now connected connected' fails = cut_short old new number publish fails.0
+    failed_to_answer (packets.Publish publish) old new number now connected connected' fails = cut_short old new number now publish fails.0
     failed_to_answer (packets.Subscribe subscribe) old new number now connected connected' fails =
         plain call old new
         (some_answered call slot_of old new subscribe.subscriptions connected.session.membership fails.0 fails.1)
@@ -108,7 +108,7 @@ module _ {S P : Type 0} (call : S → SupplyCall P → S → Type 0) where
 
     handed_less : (between : ConnPhase P) (old new : S) (now : ℕ) → HandsLess call slot_of old between now new → CallsReturnedFirst call old new
     handed_less (Connected connected) old new now hands =
-        behind call old hands.2 new (handed_some (hand_out_terms connected) old hands.2 connected.session.membership connected.session.window hands.0 hands.1 hands.3)
+        behind call old hands.2 new (handed_some (hand_out_terms connected now) old hands.2 connected.session.membership connected.session.window hands.0 hands.1 hands.3)
         (plain call hands.2 new (parted call hands.2 new (after_hand_out connected hands.0 hands.1).session now hands.4))
     handed_less other old new now hands = absurd hands
 

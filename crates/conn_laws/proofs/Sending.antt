@@ -44,7 +44,7 @@ use Rattle.conn_engine.specs.declared.phase.Opening.{Opening}
 use Rattle.conn_engine.specs.declared.phase.ConnPhase.{ConnPhase}
 use Rattle.conn_engine.specs.declared.phase.ConnPhase.TheVariants.{Unconnected, Waiting, Connected, Ended}
 use Rattle.conn_engine.specs.Answering.{DisconnectsIf, Disconnects, Answers}
-use Rattle.conn_engine.specs.Connecting.{assigned, name_if, holds_big, most_ticks, IsRefused, Accepts, WaitsAs, ResumesAs, AttachedAs}
+use Rattle.conn_engine.specs.Connecting.{assigned, name_if, holds_message_too_long, most_ticks, IsRefused, Accepts, WaitsAs, ResumesAs, AttachedAs}
 use Rattle.conn_engine.specs.Step.{hand_out_terms, hearing, IsClosed, IsRefusedIf, WaitsForConnect, AnswersFirst, AnswersPacket, AnswersTick, AnswersUnlessKicked, IsHeard, Reacts, Hands, Steps}
 use Rattle.conn_laws.specs.Sizes.{IsSmall, IsShort, HandsOn, IsAnswer, IsAnswerUnlessHandedOn, IsShortUnlessHandedOn}
 use Rattle.conn_laws.proofs.Replies as replies
@@ -165,10 +165,10 @@ few_filters : (unsubscribe : Unsubscribe) → unsubscribe_refusal unsubscribe �
 few_filters unsubscribe is = ltb-false most_entries (length unsubscribe.filters) (not_refused _ _ _ is)
 
 -- what is sent again hands messages on
-again : (sent : List Packet) (old new : Contents Held) → SendsAgain old sent new → HandOn sent
-again [] old new sends = tt
-again (packet ∷ packets) old new sends =
-    (record { dup = true; message = sends.0.1.message; subscription = sends.0.1.subscription; identifier = sends.0.0; is = sends.2 }, again packets (after_resend old (Some sends.0)) new sends.3)
+again : (now : ℕ) (sent : List Packet) (old new : Contents Held) → SendsAgain now old sent new → HandOn sent
+again now [] old new sends = tt
+again now (packet ∷ packets) old new sends =
+    (record { now = now; dup = true; message = sends.0.1.message; subscription = sends.0.1.subscription; identifier = sends.0.0; is = sends.2 }, again now packets (after_resend old (Some sends.0)) new sends.3)
 
 module _ {S P : Type 0} (call : S → SupplyCall P → S → Type 0) (slot_of : P → ℕ) where
   -- ---- a connection without its session
@@ -182,7 +182,7 @@ module _ {S P : Type 0} (call : S → SupplyCall P → S → Type 0) (slot_of : 
       → AttachedAs call old request ticks answer phase reply new → IsBrief reply
   attached (Ok (New session ended)) old new request ticks phase reply is = accepts phase reply request false session is.1
   attached (Ok (Resumed session)) old new request ticks phase reply is =
-      resumes (holds_big request.terms.maximum_packet_size session.window) old new request session phase reply is
+      resumes (holds_message_too_long request.terms.maximum_packet_size session.window) old new request session phase reply is
   attached (Ok (Replace holder)) old new request ticks phase reply is = waits (nat_lt ticks most_ticks) phase reply request ticks is.0
   attached (Ok Busy) old new request ticks phase reply is = refuses phase reply _ is.0
   attached (Err errors.Full) old new request ticks phase reply is = refuses phase reply _ is.0
@@ -198,10 +198,9 @@ module _ {S P : Type 0} (call : S → SupplyCall P → S → Type 0) (slot_of : 
 
   -- ---- a connection with its session
 
-  published : (answer : PublishAnswer) (old new : S) (number : ℕ) (publish : Publish) (reply : Reply) → AnswersPublish call old number publish answer reply new → IsBrief reply
-  published (answers.Close code) old new number publish reply is = closing reply _ code is.0 refl
-  published (answers.Refuse identifier code) old new number publish reply is = told reply _ is.0 (one _ (acknowledged_is_small identifier code))
-  published (answers.Offer identifier) old new number publish reply is = told reply _ is.replied (one _ (acknowledged_is_small identifier _))
+  published : (answer : PublishAnswer) (old new : S) (number now : ℕ) (publish : Publish) (reply : Reply) → AnswersPublish call old number now publish answer reply new → IsBrief reply
+  published (answers.Close code) old new number now publish reply is = closing reply _ code is.0 refl
+  published (answers.Offer identifier) old new number now publish reply is = told reply _ is.replied (one _ (acknowledged_is_small identifier _))
 
   -- there is a code for each entry
   codes_for : (entries : List Subscription) (codes : List ℕ) (old new : S) (membership membership' : Membership P)
@@ -230,23 +229,23 @@ module _ {S P : Type 0} (call : S → SupplyCall P → S → Type 0) (slot_of : 
       let few : length is.0 ≤ most_entries = omega (arith, few_filters unsubscribe found, codes_for_filters unsubscribe.filters is.0 old new membership membership' is.2) in
       told reply _ is.1 (one _ (unsubscribed_is_small unsubscribe.packet_identifier is.0 few))
 
-  answered : (packet : Packet) (old new : S) (number : ℕ) (connected after : ConnectedClient P) (reply : Reply) → Answers call slot_of old number connected packet after reply new → IsBrief reply
-  answered (packets.Publish publish) old new number connected after reply is = published (publish_answer publish) old new number publish reply is.0
-  answered (packets.Puback puback) old new number connected after reply is = told reply _ is.3 tt
-  answered (packets.Subscribe subscribe) old new number connected after reply is =
+  answered : (packet : Packet) (old new : S) (number now : ℕ) (connected after : ConnectedClient P) (reply : Reply) → Answers call slot_of old number connected now packet after reply new → IsBrief reply
+  answered (packets.Publish publish) old new number now connected after reply is = published (publish_answer publish) old new number now publish reply is.0
+  answered (packets.Puback puback) old new number now connected after reply is = told reply _ is.3 tt
+  answered (packets.Subscribe subscribe) old new number now connected after reply is =
       subscribed (subscribe_refusal subscribe) old new connected.session.membership is.0 connected.session.subscription is.1 subscribe reply refl is.2
-  answered (packets.Unsubscribe unsubscribe) old new number connected after reply is =
+  answered (packets.Unsubscribe unsubscribe) old new number now connected after reply is =
       unsubscribed (unsubscribe_refusal unsubscribe) old new connected.session.membership is.0 unsubscribe reply refl is.1
-  answered packets.Pingreq old new number connected after reply is = told reply _ is.1 (one _ answered_is_small)
-  answered (packets.Disconnect disconnect) old new number connected after reply is = disconnects disconnect.properties.session_expiry_interval connected after reply is.0
-  answered (packets.Connect connect) old new number connected after reply is = closing reply _ 0x82 is.1 refl
-  answered (packets.Connack connack) old new number connected after reply is = closing reply _ 0x82 is.1 refl
-  answered (packets.Suback suback) old new number connected after reply is = closing reply _ 0x82 is.1 refl
-  answered (packets.Unsuback unsuback) old new number connected after reply is = closing reply _ 0x82 is.1 refl
-  answered packets.Pingresp old new number connected after reply is = closing reply _ 0x82 is.1 refl
-  answered (packets.Foreign kind) old new number connected after reply is = closing reply _ 0x82 is.1 refl
-  answered (packets.OtherVersion version) old new number connected after reply is = closing reply _ 0x82 is.1 refl
-  answered packets.WithWill old new number connected after reply is = closing reply _ 0x82 is.1 refl
+  answered packets.Pingreq old new number now connected after reply is = told reply _ is.1 (one _ answered_is_small)
+  answered (packets.Disconnect disconnect) old new number now connected after reply is = disconnects disconnect.properties.session_expiry_interval connected after reply is.0
+  answered (packets.Connect connect) old new number now connected after reply is = closing reply _ 0x82 is.1 refl
+  answered (packets.Connack connack) old new number now connected after reply is = closing reply _ 0x82 is.1 refl
+  answered (packets.Suback suback) old new number now connected after reply is = closing reply _ 0x82 is.1 refl
+  answered (packets.Unsuback unsuback) old new number now connected after reply is = closing reply _ 0x82 is.1 refl
+  answered packets.Pingresp old new number now connected after reply is = closing reply _ 0x82 is.1 refl
+  answered (packets.Foreign kind) old new number now connected after reply is = closing reply _ 0x82 is.1 refl
+  answered (packets.OtherVersion version) old new number now connected after reply is = closing reply _ 0x82 is.1 refl
+  answered packets.WithWill old new number now connected after reply is = closing reply _ 0x82 is.1 refl
 
   heard : (overdue : Bool) (old new : S) (connected : ConnectedClient P) (now : ℕ) (phase : ConnPhase P) (reply : Reply) → IsHeard call slot_of overdue old connected now phase reply new → IsBrief reply
   heard true old new connected now phase reply is = closing reply _ 0x8D is.0 refl
@@ -272,7 +271,7 @@ module _ {S P : Type 0} (call : S → SupplyCall P → S → Type 0) (slot_of : 
   replied (Waiting request ticks) inputs.Closing old new number now between reply is = closes between reply is.1
   replied (Connected connected) (inputs.Packet packet) old new number now between reply is =
       unless_kicked is.0 is.1 new connected now _ between reply (λ (does : AnswersPacket call slot_of is.1 number connected now packet between reply new).
-      answered packet is.1 does.1 number (hearing connected now) does.0 reply does.2) is.3
+      answered packet is.1 does.1 number now (hearing connected now) does.0 reply does.2) is.3
   replied (Connected connected) (inputs.Fault fault) old new number now between reply is = closing reply _ _ is.0 refl
   replied (Connected connected) inputs.Tick old new number now between reply is =
       unless_kicked is.0 is.1 new connected now _ between reply (λ (does : AnswersTick call slot_of is.1 connected now between reply new).
@@ -287,7 +286,7 @@ module _ {S P : Type 0} (call : S → SupplyCall P → S → Type 0) (slot_of : 
   fresh terms [] old new place place' window window' sends = tt
   fresh terms (packet ∷ packets) old new place place' window window' sends =
       let hand_out = sends.3 in (
-        record { dup = false; message = hand_out.envelope.message; subscription = terms.subscription; identifier = hand_out.identifier; is = hand_out.sent },
+        record { now = terms.at; dup = false; message = hand_out.envelope.message; subscription = terms.subscription; identifier = hand_out.identifier; is = hand_out.sent },
         fresh terms packets sends.2 new sends.0 place' sends.1 window' sends.4,
       )
 
@@ -297,15 +296,15 @@ module _ {S P : Type 0} (call : S → SupplyCall P → S → Type 0) (slot_of : 
   handed_fresh terms (Member place) old new window window' sent membership' hands = fresh terms sent old new place hands.0 window window' hands.2
   handed_fresh terms (Leaving place) old new window window' sent membership' hands = subst HandOn (sym hands.0) tt
 
-  handed : (phase phase' : ConnPhase P) (old new : S) (sent : List Packet) → Hands call slot_of old phase sent phase' new → HandOn sent
-  handed (Unconnected opened) phase' old new sent hands = subst HandOn (sym hands.0) tt
-  handed (Waiting request ticks) phase' old new sent hands = subst HandOn (sym hands.0) tt
-  handed (Connected connected) phase' old new sent hands =
+  handed : (phase phase' : ConnPhase P) (now : ℕ) (old new : S) (sent : List Packet) → Hands call slot_of old phase now sent phase' new → HandOn sent
+  handed (Unconnected opened) phase' now old new sent hands = subst HandOn (sym hands.0) tt
+  handed (Waiting request ticks) phase' now old new sent hands = subst HandOn (sym hands.0) tt
+  handed (Connected connected) phase' now old new sent hands =
       let out = hands.2 in
       subst HandOn (sym out.both)
-      (both HandsOn out.again out.fresh (again out.again connected.session.window out.between out.sent_again)
-      (handed_fresh (hand_out_terms connected) connected.session.membership old new out.between hands.1 out.fresh hands.0 out.sent_fresh))
-  handed Ended phase' old new sent hands = subst HandOn (sym hands.0) tt
+      (both HandsOn out.again out.fresh (again now out.again connected.session.window out.between out.sent_again)
+      (handed_fresh (hand_out_terms connected now) connected.session.membership old new out.between hands.1 out.fresh hands.0 out.sent_fresh))
+  handed Ended phase' now old new sent hands = subst HandOn (sym hands.0) tt
 
   -- ---- a step
 
@@ -315,4 +314,4 @@ module _ {S P : Type 0} (call : S → SupplyCall P → S → Type 0) (slot_of : 
       subst (AllByRecursion IsAnswerUnlessHandedOn) (sym steps.written)
       (both IsAnswerUnlessHandedOn (option_to_list steps.reply.packet) steps.sent
       (all_are (λ packet answer. inl answer) (option_to_list steps.reply.packet) (replied phase input old steps.mid number now steps.between steps.reply steps.reacts))
-      (all_are (λ packet on. inr on) steps.sent (handed steps.between phase' steps.mid new steps.sent steps.hands)))
+      (all_are (λ packet on. inr on) steps.sent (handed steps.between phase' now steps.mid new steps.sent steps.hands)))

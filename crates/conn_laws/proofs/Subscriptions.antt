@@ -54,24 +54,24 @@ module _ {S P : Type 0} (call : S → SupplyCall P → S → Type 0) (slot_of : 
   subscribed None old new connected connected' membership subscription subscribe reply does is =
       inl (does.0, [], ap (λ (r : Reply). option_to_list r.packet) does.1, ap (λ (l : ConnectedClient P). l.session.subscription) is ∙ does.3)
 
-  answered : (packet : Packet) (old new : S) (number : ℕ) (connected connected' : ConnectedClient P) (reply : Reply) → Answers call slot_of old number connected packet connected' reply new
+  answered : (packet : Packet) (old new : S) (number now : ℕ) (connected connected' : ConnectedClient P) (reply : Reply) → Answers call slot_of old number connected now packet connected' reply new
       → Identifies (inputs.Packet packet) (option_to_list reply.packet) connected.session.subscription connected'.session.subscription ⊎ (reply.next ≡ Close)
-  answered (packets.Publish publish) old new number connected connected' reply answers = inl (same connected connected' answers.1)
-  answered (packets.Puback puback) old new number connected connected' reply answers =
+  answered (packets.Publish publish) old new number now connected connected' reply answers = inl (same connected connected' answers.1)
+  answered (packets.Puback puback) old new number now connected connected' reply answers =
       inl (ap (λ (l : ConnectedClient P). l.session.subscription) answers.2 ∙ ap (λ (s : Session Held P). s.subscription) answers.1.same)
-  answered (packets.Subscribe subscribe) old new number connected connected' reply answers =
+  answered (packets.Subscribe subscribe) old new number now connected connected' reply answers =
       subscribed (subscribe_refusal subscribe) old new connected connected' answers.0 answers.1 subscribe reply answers.2 answers.3
-  answered (packets.Unsubscribe unsubscribe) old new number connected connected' reply answers = inl (ap (λ (l : ConnectedClient P). l.session.subscription) answers.2)
-  answered packets.Pingreq old new number connected connected' reply answers = inl (same connected connected' answers.0)
-  answered (packets.Disconnect disconnect) old new number connected connected' reply answers = inl (disconnects disconnect.properties.session_expiry_interval connected connected' reply answers.0)
-  answered (packets.Connect connect) old new number connected connected' reply answers = inl (same connected connected' answers.0)
-  answered (packets.Connack connack) old new number connected connected' reply answers = inl (same connected connected' answers.0)
-  answered (packets.Suback suback) old new number connected connected' reply answers = inl (same connected connected' answers.0)
-  answered (packets.Unsuback unsuback) old new number connected connected' reply answers = inl (same connected connected' answers.0)
-  answered packets.Pingresp old new number connected connected' reply answers = inl (same connected connected' answers.0)
-  answered (packets.Foreign kind) old new number connected connected' reply answers = inl (same connected connected' answers.0)
-  answered (packets.OtherVersion version) old new number connected connected' reply answers = inl (same connected connected' answers.0)
-  answered packets.WithWill old new number connected connected' reply answers = inl (same connected connected' answers.0)
+  answered (packets.Unsubscribe unsubscribe) old new number now connected connected' reply answers = inl (ap (λ (l : ConnectedClient P). l.session.subscription) answers.2)
+  answered packets.Pingreq old new number now connected connected' reply answers = inl (same connected connected' answers.0)
+  answered (packets.Disconnect disconnect) old new number now connected connected' reply answers = inl (disconnects disconnect.properties.session_expiry_interval connected connected' reply answers.0)
+  answered (packets.Connect connect) old new number now connected connected' reply answers = inl (same connected connected' answers.0)
+  answered (packets.Connack connack) old new number now connected connected' reply answers = inl (same connected connected' answers.0)
+  answered (packets.Suback suback) old new number now connected connected' reply answers = inl (same connected connected' answers.0)
+  answered (packets.Unsuback unsuback) old new number now connected connected' reply answers = inl (same connected connected' answers.0)
+  answered packets.Pingresp old new number now connected connected' reply answers = inl (same connected connected' answers.0)
+  answered (packets.Foreign kind) old new number now connected connected' reply answers = inl (same connected connected' answers.0)
+  answered (packets.OtherVersion version) old new number now connected connected' reply answers = inl (same connected connected' answers.0)
+  answered packets.WithWill old new number now connected connected' reply answers = inl (same connected connected' answers.0)
 
   -- the connection goes on, or is over
   concluded : (IsSo : Option ℕ → Type 0) (next : Then) (old new : S) (connected : ConnectedClient P) (now : ℕ) (phase : ConnPhase P) → Concludes call slot_of old connected now next phase new
@@ -88,7 +88,7 @@ module _ {S P : Type 0} (call : S → SupplyCall P → S → Type 0) (slot_of : 
       ⊎_elim
       (λ (is : IsSo does.0.session.subscription). concluded IsSo reply.next does.1 new does.0 now phase does.3 is)
       (λ (closes : reply.next ≡ Close). ended IsSo phase (subst (λ (next : Then). Concludes call slot_of does.1 does.0 now next phase new) closes does.3).1)
-      (answered packet old does.1 number (hearing connected now) does.0 reply does.2)
+      (answered packet old does.1 number now (hearing connected now) does.0 reply does.2)
 
   heard : (IsSo : Option ℕ → Type 0) (silent : Bool) (old new : S) (connected : ConnectedClient P) (now : ℕ) (phase : ConnPhase P) (reply : Reply)
       → IsHeard call slot_of silent old connected now phase reply new → IsSo connected.session.subscription → InSession IsSo phase
@@ -112,11 +112,11 @@ module _ {S P : Type 0} (call : S → SupplyCall P → S → Type 0) (slot_of : 
   reacted connected inputs.Closing old new number now phase reply reacts = ended _ phase reacts.2
 
   -- nothing that is handed out changes it
-  handed : (IsSo : Option ℕ → Type 0) (phase phase' : ConnPhase P) (old new : S) (sent : List Packet) → Hands call slot_of old phase sent phase' new → InSession IsSo phase → InSession IsSo phase'
-  handed IsSo (Unconnected opened) phase' old new sent hands is = subst (InSession IsSo) (sym hands.1) tt
-  handed IsSo (Waiting request ticks) phase' old new sent hands is = subst (InSession IsSo) (sym hands.1) tt
-  handed IsSo (Connected connected) phase' old new sent hands is = subst (InSession IsSo) (sym hands.3) is
-  handed IsSo Ended phase' old new sent hands is = ended IsSo phase' hands.1
+  handed : (IsSo : Option ℕ → Type 0) (phase phase' : ConnPhase P) (now : ℕ) (old new : S) (sent : List Packet) → Hands call slot_of old phase now sent phase' new → InSession IsSo phase → InSession IsSo phase'
+  handed IsSo (Unconnected opened) phase' now old new sent hands is = subst (InSession IsSo) (sym hands.1) tt
+  handed IsSo (Waiting request ticks) phase' now old new sent hands is = subst (InSession IsSo) (sym hands.1) tt
+  handed IsSo (Connected connected) phase' now old new sent hands is = subst (InSession IsSo) (sym hands.3) is
+  handed IsSo Ended phase' now old new sent hands is = ended IsSo phase' hands.1
 
   -- what holds of each identifier holds where the session is
   where_it_is : (IsSo Also : Option ℕ → Type 0) (phase : ConnPhase P) → ((identifier : Option ℕ) → IsSo identifier → Also identifier) → InSession IsSo phase → InSession Also phase
@@ -131,4 +131,4 @@ module _ {S P : Type 0} (call : S → SupplyCall P → S → Type 0) (slot_of : 
       let IsSo = Identifies input (option_to_list steps.reply.packet) connected.session.subscription in
       where_it_is IsSo (Identifies input packets connected.session.subscription) phase'
       (λ identifier is. behind (subscribe_in input) (option_to_list steps.reply.packet) steps.sent packets connected.session.subscription identifier steps.written is)
-      (handed IsSo steps.between phase' steps.mid new steps.sent steps.hands (reacted connected input old steps.mid number now steps.between steps.reply steps.reacts))
+      (handed IsSo steps.between phase' now steps.mid new steps.sent steps.hands (reacted connected input old steps.mid number now steps.between steps.reply steps.reacts))

@@ -97,19 +97,19 @@ module _ {S P : Type 0} (call : S → SupplyCall P → S → Type 0) where
       )
 
   -- of nothing that is handed out all is fit
-  none_fit : (phase : ConnPhase P) → AreSentIfFit phase []
-  none_fit (Unconnected opened) = refl
-  none_fit (Waiting request ticks) = refl
-  none_fit (Connected connected) = tt
-  none_fit Ended = refl
+  none_fit : (phase : ConnPhase P) (now : ℕ) → AreSentIfFit phase now []
+  none_fit (Unconnected opened) now = refl
+  none_fit (Waiting request ticks) now = refl
+  none_fit (Connected connected) now = tt
+  none_fit Ended now = refl
 
   -- what is discarded where messages go out after an answer
-  abbrev pub discarded_by : (slot_of : P → ℕ) (between : ConnPhase P) (old new : S) (sent : List Packet) (phase : ConnPhase P) → Hands call slot_of old between sent phase new → List Held
-  discarded_by slot_of (Unconnected opened) old new sent phase hands = []
-  discarded_by slot_of (Waiting request ticks) old new sent phase hands = []
-  discarded_by slot_of (Connected connected) old new sent phase hands =
-      let out = hands.2 in discarded_in call (hand_out_terms connected) connected.session.membership old new out.between out.fresh hands.0 hands.1 out.sent_fresh
-  discarded_by slot_of Ended old new sent phase hands = []
+  abbrev pub discarded_by : (slot_of : P → ℕ) (between : ConnPhase P) (now : ℕ) (old new : S) (sent : List Packet) (phase : ConnPhase P) → Hands call slot_of old between now sent phase new → List Held
+  discarded_by slot_of (Unconnected opened) now old new sent phase hands = []
+  discarded_by slot_of (Waiting request ticks) now old new sent phase hands = []
+  discarded_by slot_of (Connected connected) now old new sent phase hands =
+      let out = hands.2 in discarded_in call (hand_out_terms connected now) connected.session.membership old new out.between out.fresh hands.0 hands.1 out.sent_fresh
+  discarded_by slot_of Ended now old new sent phase hands = []
 
   -- the calls of the answer, before anything is handed out, by which what is acknowledged is settled
   pub record RepliesFirst (old : S) (phase : ConnPhase P) (input : Input) (next : Then) (marks : List (Mark Held)) (mid : S) : Type 0 where
@@ -118,25 +118,25 @@ module _ {S P : Type 0} (call : S → SupplyCall P → S → Type 0) where
     pub settles : SettlesAs call phase input next marks supply_calls []
 
   -- a step whose answer comes that far, and in which these are discarded after it
-  pub record TranscribesWith (discarded : List Held) (mid : S) (old : S) (number : ℕ) (phase : ConnPhase P) (input : Input) (sent : List Packet) (next : Then) (phase' : ConnPhase P) (new : S) : Type 0 where
-    pub step : Transcribes call old number phase input sent next phase' new
+  pub record TranscribesWith (discarded : List Held) (mid : S) (old : S) (number : ℕ) (phase : ConnPhase P) (now : ℕ) (input : Input) (sent : List Packet) (next : Then) (phase' : ConnPhase P) (new : S) : Type 0 where
+    pub step : Transcribes call old number phase now input sent next phase' new
     pub discards : discards_of step.outcomes ≡ all_discarded discarded
     pub replies : RepliesFirst old phase input next step.marks mid
 
   -- nothing is handed out
-  hands_none : (old new : S) (number : ℕ) (phase : ConnPhase P) (input : Input) (next : Then) (phase' : ConnPhase P) → SessionStepped call old number phase input next phase' new
-      → TranscribesWith [] new old number phase input [] next phase' new
-  hands_none old new number phase input next phase' turned =
+  hands_none : (old new : S) (number : ℕ) (phase : ConnPhase P) (now : ℕ) (input : Input) (next : Then) (phase' : ConnPhase P) → SessionStepped call old number phase input next phase' new
+      → TranscribesWith [] new old number phase now input [] next phase' new
+  hands_none old new number phase now input next phase' turned =
       record {
         step = record {
           marks = turned.marks;
           session = turned.session;
-          publishes = sym turned.no_publish;
+          publishes = sym (turned.no_publish now);
           supply_calls = turned.supply_calls;
           made = turned.made;
           outcomes = [];
           handed_out = turned.hands;
-          fit = none_fit phase';
+          fit = none_fit phase' now;
           hands = sym turned.none_fresh;
           own = λ of keeps. tt;
           settles = turned.settles;
@@ -146,18 +146,18 @@ module _ {S P : Type 0} (call : S → SupplyCall P → S → Type 0) where
       }
 
   -- and where the phase, the packets and the supply are what they were
-  stays : (old mid new : S) (number : ℕ) (phase : ConnPhase P) (input : Input) (sent : List Packet) (next : Then) (between phase' : ConnPhase P)
-      → SessionStepped call old number phase input next between mid → sent ≡ [] → phase' ≡ between → new ≡ mid → TranscribesWith [] mid old number phase input sent next phase' new
-  stays old mid new number phase input sent next between phase' turned none is same =
-      subst (λ packets. TranscribesWith [] mid old number phase input packets next phase' new) (sym none)
-      (subst (λ s. TranscribesWith [] mid old number phase input [] next s new) (sym is)
-      (subst (λ s. TranscribesWith [] mid old number phase input [] next between s) (sym same) (hands_none old mid number phase input next between turned)))
+  stays : (old mid new : S) (number : ℕ) (phase : ConnPhase P) (now : ℕ) (input : Input) (sent : List Packet) (next : Then) (between phase' : ConnPhase P)
+      → SessionStepped call old number phase input next between mid → sent ≡ [] → phase' ≡ between → new ≡ mid → TranscribesWith [] mid old number phase now input sent next phase' new
+  stays old mid new number phase now input sent next between phase' turned none is same =
+      subst (λ packets. TranscribesWith [] mid old number phase now input packets next phase' new) (sym none)
+      (subst (λ s. TranscribesWith [] mid old number phase now input [] next s new) (sym is)
+      (subst (λ s. TranscribesWith [] mid old number phase now input [] next between s) (sym same) (hands_none old mid number phase now input next between turned)))
 
   -- this is handed out
-  hands : {places : List P} (discarded : List Held) (old mid new : S) (number : ℕ) (phase : ConnPhase P) (input : Input) (sent : List Packet) (next : Then) (connected : ConnectedClient P) (membership : Membership P)
-      (window : Contents Held) → SessionStepped call old number phase input next (Connected connected) mid → Handed call (hand_out_terms connected) discarded mid places connected.session.window sent membership window new
-      → TranscribesWith discarded mid old number phase input sent next (Connected (after_hand_out connected membership window)) new
-  hands discarded old mid new number phase input sent next connected membership window turned out =
+  hands : {places : List P} (discarded : List Held) (old mid new : S) (number : ℕ) (phase : ConnPhase P) (now : ℕ) (input : Input) (sent : List Packet) (next : Then) (connected : ConnectedClient P) (membership : Membership P)
+      (window : Contents Held) → SessionStepped call old number phase input next (Connected connected) mid → Handed call (hand_out_terms connected now) discarded mid places connected.session.window sent membership window new
+      → TranscribesWith discarded mid old number phase now input sent next (Connected (after_hand_out connected membership window)) new
+  hands discarded old mid new number phase now input sent next connected membership window turned out =
       let more : List (Mark Held) = transcript_of out.sends.calls in
       record {
         step = record {
@@ -165,7 +165,7 @@ module _ {S P : Type 0} (call : S → SupplyCall P → S → Type 0) where
           session =
               session_steps_on (connected_of phase) old mid new number connected membership window turned.marks out.sends.calls turned.session
               (record { supply_calls = out.calls.supply_calls; made = out.calls.made; aside = out.calls.aside }) out.sends.made out.sends.within;
-          publishes = out.sends.publishes ∙ sym (filter_map-append publish_of turned.marks more ∙ ap (λ (ps : List Packet). ps ++ publishes_of more) turned.no_publish);
+          publishes = out.sends.publishes ∙ sym (filter_map-append (publish_of now) turned.marks more ∙ ap (λ (ps : List Packet). ps ++ publishes_of now more) (turned.no_publish now));
           supply_calls = turned.supply_calls ++ out.calls.supply_calls;
           made = joins call turned.supply_calls out.calls.supply_calls old mid new turned.made out.calls.made;
           outcomes = out.outcomes;
@@ -186,27 +186,27 @@ module _ {S P : Type 0} (call : S → SupplyCall P → S → Type 0) where
       }
 
   module _ (slot_of : P → ℕ) where
-    handed_behind : (between : ConnPhase P) (old mid new : S) (number : ℕ) (phase : ConnPhase P) (input : Input) (sent : List Packet) (next : Then) (phase' : ConnPhase P)
-        → SessionStepped call old number phase input next between mid → (does : Hands call slot_of mid between sent phase' new)
-        → TranscribesWith (discarded_by slot_of between mid new sent phase' does) mid old number phase input sent next phase' new
-    handed_behind (Unconnected opened) old mid new number phase input sent next phase' turned does = stays old mid new number phase input sent next _ phase' turned does.0 does.1 does.2
-    handed_behind (Waiting request ticks) old mid new number phase input sent next phase' turned does = stays old mid new number phase input sent next _ phase' turned does.0 does.1 does.2
-    handed_behind (Connected connected) old mid new number phase input sent next phase' turned does =
+    handed_behind : (between : ConnPhase P) (old mid new : S) (number : ℕ) (phase : ConnPhase P) (now : ℕ) (input : Input) (sent : List Packet) (next : Then) (phase' : ConnPhase P)
+        → SessionStepped call old number phase input next between mid → (does : Hands call slot_of mid between now sent phase' new)
+        → TranscribesWith (discarded_by slot_of between now mid new sent phase' does) mid old number phase now input sent next phase' new
+    handed_behind (Unconnected opened) old mid new number phase now input sent next phase' turned does = stays old mid new number phase now input sent next _ phase' turned does.0 does.1 does.2
+    handed_behind (Waiting request ticks) old mid new number phase now input sent next phase' turned does = stays old mid new number phase now input sent next _ phase' turned does.0 does.1 does.2
+    handed_behind (Connected connected) old mid new number phase now input sent next phase' turned does =
         let out = does.2 in
-        let discarded = discarded_in call (hand_out_terms connected) connected.session.membership mid new out.between out.fresh does.0 does.1 out.sent_fresh in
-        subst (λ s. TranscribesWith discarded mid old number phase input sent next s new) (sym does.3)
-        (hands discarded old mid new number phase input sent next connected does.0 does.1 turned
-        (handed_out call (hand_out_terms connected) mid new connected.session.membership connected.session.window sent does.0 does.1 does.2))
-    handed_behind Ended old mid new number phase input sent next phase' turned does = stays old mid new number phase input sent next _ phase' turned does.0 does.1 does.2
+        let discarded = discarded_in call (hand_out_terms connected now) connected.session.membership mid new out.between out.fresh does.0 does.1 out.sent_fresh in
+        subst (λ s. TranscribesWith discarded mid old number phase now input sent next s new) (sym does.3)
+        (hands discarded old mid new number phase now input sent next connected does.0 does.1 turned
+        (handed_out call (hand_out_terms connected now) mid new connected.session.membership connected.session.window sent does.0 does.1 does.2))
+    handed_behind Ended old mid new number phase now input sent next phase' turned does = stays old mid new number phase now input sent next _ phase' turned does.0 does.1 does.2
 
     pub transcribed_with : (old new : S) (number now : ℕ) (phase phase' : ConnPhase P) (input : Input) (packets : List Packet) (next : Then)
         (steps : Steps call slot_of old number phase now input packets next phase' new) → IsNotEnding phase
-        → TranscribesWith (discarded_by slot_of steps.between steps.mid new steps.sent phase' steps.hands) steps.mid old number phase input packets next phase' new
+        → TranscribesWith (discarded_by slot_of steps.between now steps.mid new steps.sent phase' steps.hands) steps.mid old number phase now input packets next phase' new
     transcribed_with old new number now phase phase' input packets next steps sound =
         let turned =
         subst (λ (n : Then). SessionStepped call old number phase input n steps.between steps.mid) (sym steps.followed)
         (reacted call slot_of phase input old steps.mid number now steps.between steps.reply sound steps.reacts) in
-        let both = handed_behind steps.between old steps.mid new number phase input steps.sent next phase' turned steps.hands in
+        let both = handed_behind steps.between old steps.mid new number phase now input steps.sent next phase' turned steps.hands in
         let all = both.step in
         record {
           step = record {
@@ -230,5 +230,5 @@ module _ {S P : Type 0} (call : S → SupplyCall P → S → Type 0) where
         }
 
     pub transcribed : (old new : S) (number now : ℕ) (phase phase' : ConnPhase P) (input : Input) (packets : List Packet) (next : Then)
-        → Steps call slot_of old number phase now input packets next phase' new → IsNotEnding phase → Transcribes call old number phase input packets next phase' new
+        → Steps call slot_of old number phase now input packets next phase' new → IsNotEnding phase → Transcribes call old number phase now input packets next phase' new
     transcribed old new number now phase phase' input packets next steps sound = (transcribed_with old new number now phase phase' input packets next steps sound).step

@@ -17,7 +17,7 @@ use Rattle.conn_supply.specs.SupplyCalls.SupplyCall.{ParkAsIs}
 use Rattle.conn_engine.specs.declared.phase.ConnectRequest.{ConnectRequest}
 use Rattle.conn_engine.specs.declared.phase.ConnectedClient.{ConnectedClient}
 use Rattle.conn_engine.specs.declared.phase.ConnPhase.{ConnPhase}
-use Rattle.conn_engine.specs.Connecting.{holds_big, most_ticks, Accepts, WaitsAs, ResumesAs, AttachedAs, Attaches}
+use Rattle.conn_engine.specs.Connecting.{holds_message_too_long, most_ticks, Accepts, WaitsAs, ResumesAs, AttachedAs, Attaches}
 use Rattle.conn_engine.specs.Ending.{down, Parts}
 use Rattle.conn_laws.specs.Calls.{settlement_of, hand_out_of, settled, handed, MakesAll}
 use Rattle.conn_laws.specs.Marks.{publishes_of, fresh_of, acknowledged_of}
@@ -81,7 +81,7 @@ module _ {S P : Type 0} (call : S → SupplyCall P → S → Type 0) where
   pub record SessionStep (old : S) (number : ℕ) (before after : Option (ConnectedClient P)) (new : S) : Type 0 where
     pub marks : List (Mark Held)
     pub session : SessionSteps call old number before after marks new
-    pub no_publish : publishes_of marks ≡ []
+    pub no_publish : (now : ℕ) → publishes_of now marks ≡ []
     pub none_fresh : fresh_of marks ≡ []
     pub none_acked : acknowledged_of marks ≡ []
     pub calls : Quiet old new
@@ -94,7 +94,7 @@ module _ {S P : Type 0} (call : S → SupplyCall P → S → Type 0) where
   -- no session is asked for
   pub stays_out : (old new : S) (number : ℕ) → Apart old new → SessionStep old number None None new
   stays_out old new number calls =
-      record { marks = []; session = (refl, inl (leads old new calls)); no_publish = refl; none_fresh = refl; none_acked = refl; calls = calls.calls }
+      record { marks = []; session = (refl, inl (leads old new calls)); no_publish = λ now. refl; none_fresh = refl; none_acked = refl; calls = calls.calls }
 
   -- one is asked for, and this is the answer
   record Asked (old : S) (number : ℕ) (answer : Result (Attached Held P) DeskError) (new : S) : Type 0 where
@@ -108,7 +108,7 @@ module _ {S P : Type 0} (call : S → SupplyCall P → S → Type 0) where
       record {
         marks = [];
         session = (refl, inr (record { answer = answer; mid = mid; asks = asked.asks; vain = inl (none, leads mid new later) }));
-        no_publish = refl;
+        no_publish = λ now. refl;
         none_fresh = refl;
         none_acked = refl;
         calls = quiet_behind old mid new asked.calls later.calls;
@@ -121,7 +121,7 @@ module _ {S P : Type 0} (call : S → SupplyCall P → S → Type 0) where
       record {
         marks = [];
         session = (refl, inr (record { answer = Ok (Resumed session); mid = mid; asks = asked.asks; vain = inr (session, behind, refl, back, leads behind new later) }));
-        no_publish = refl;
+        no_publish = λ now. refl;
         none_fresh = refl;
         none_acked = refl;
         calls = quiet_behind old mid new asked.calls (quiet_behind mid behind new (quiet_one mid behind _ back refl refl) later.calls);
@@ -148,7 +148,7 @@ module _ {S P : Type 0} (call : S → SupplyCall P → S → Type 0) where
           marks_are = refl;
           within = tt;
         };
-        no_publish = refl;
+        no_publish = λ now. refl;
         none_fresh = refl;
         none_acked = refl;
         calls = quiet_behind old mid new asked.calls later.calls;
@@ -171,7 +171,7 @@ module _ {S P : Type 0} (call : S → SupplyCall P → S → Type 0) where
   attached_as (Ok (New session ended)) old mid behind new number request ticks phase reply asked is later =
       begins old mid new number _ request false session phase reply asked refl is.1 (apart_behind mid behind new (apart mid behind (asides.retired_earlier call ended mid behind is.0)) later)
   attached_as (Ok (Resumed session)) old mid behind new number request ticks phase reply asked is later =
-      resumed_as (holds_big request.terms.maximum_packet_size session.window) old mid behind new number request session phase reply asked is later
+      resumed_as (holds_message_too_long request.terms.maximum_packet_size session.window) old mid behind new number request session phase reply asked is later
   attached_as (Ok (Replace holder)) old mid behind new number request ticks phase reply asked is later =
       waits_as (nat_lt ticks most_ticks) old new number request ticks phase reply is.0 (in_vain old mid new number _ asked refl (apart_behind mid behind new (still mid behind is.1) later))
   attached_as (Ok Busy) old mid behind new number request ticks phase reply asked is later =
@@ -200,7 +200,7 @@ module _ {S P : Type 0} (call : S → SupplyCall P → S → Type 0) where
       record {
         marks = [];
         session = record { aside = leads old new calls; same = same; calls = []; made = window; marks_are = refl; within = tt };
-        no_publish = refl;
+        no_publish = λ now. refl;
         none_fresh = refl;
         none_acked = refl;
         calls = calls.calls;
@@ -224,7 +224,7 @@ module _ {S P : Type 0} (call : S → SupplyCall P → S → Type 0) where
           is_down = is_down;
           marks_are = refl;
         };
-        no_publish = refl;
+        no_publish = λ now. refl;
         none_fresh = refl;
         none_acked = refl;
         calls = quiet_behind old before new earlier.calls (quiet_behind before behind new called later.calls);

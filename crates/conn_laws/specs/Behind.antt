@@ -1,5 +1,5 @@
 -- After a step: what ends a connection, and where nothing is left to hand out to its client.
-use Rattle.std.specs.Prelude.{◌≡◌, ◌⊎◌, false, List, length, None, Ok, ⊤}
+use Rattle.std.specs.Prelude.{◌≡◌, ◌⊎◌, ℕ, false, List, length, None, Ok, ⊤}
 use Rattle.group_jobs.specs.Stamps.{Held}
 use Rattle.member_window.specs.Contents.{Contents, HasRoom, IsNextResend}
 use Rattle.session_desk.specs.declared.session.Membership.{Membership}
@@ -51,7 +51,7 @@ module _ {S P : Type 0} (call : S → SupplyCall P → S → Type 0) (terms : Ha
   IsServed new (Leaving place) window = ⊤
 
 module _ {S P : Type 0} (call : S → SupplyCall P → S → Type 0) where
-  -- nothing is left to hand out to a connection: what waits to be sent again waits for the quota
-  pub record IsAllHandedOut (connected : ConnectedClient P) (new : S) : Type 0 where
+  -- nothing is left to hand out to a connection at this moment: what waits to be sent again waits for the quota
+  pub record IsAllHandedOut (connected : ConnectedClient P) (now : ℕ) (new : S) : Type 0 where
     pub again : IsNextResend connected.session.window None
-    pub fresh : IsServed call (hand_out_terms connected) new connected.session.membership connected.session.window
+    pub fresh : IsServed call (hand_out_terms connected now) new connected.session.membership connected.session.window

@@ -4,6 +4,7 @@ use Rattle.std.specs.List.{AllByRecursion}
 use Rattle.mqtt_packet.specs.declared.packet.Packet.{Packet}
 use Rattle.mqtt_packet.specs.declared.packet.Packet.TheVariants as packets
 use Rattle.mqtt_packet.specs.declared.packet.Publish.{Publish}
+use Rattle.mqtt_packet.specs.declared.packet_properties.PublishProperties.{PublishProperties}
 use Rattle.group_jobs.specs.declared.fate.Fate.{Fate}
 use Rattle.group_jobs.specs.declared.fate.Fate.TheVariants.{Discarded}
 use Rattle.group_jobs.specs.declared.message.Message.{Message}
@@ -82,43 +83,51 @@ sent_of outcomes = filter_map (λ o. if_sent o.sent o.hand_out) outcomes
 abbrev pub discards_of : {P : Type 0} → List (Outcome P) → List (Held × Fate)
 discards_of outcomes = filter_map (λ o. if_discarded o.sent o.hand_out) outcomes
 
--- a message is sent exactly where it is not to be discarded under these terms (3.1.2.11.4)
+-- a message is sent exactly where it is not to be discarded under these terms (3.1.2.11.4, 3.3.2.3.3)
 abbrev pub IsSentIfFit : {P : Type 0} → HandOutTerms → Outcome P → Type 0
 IsSentIfFit terms outcome = outcome.sent ≡ not (is_discarded terms outcome.hand_out.1.message)
 
--- so it is with all that a step hands out, under the terms of its client; where the connection has none after it, nothing is handed out
-abbrev pub AreSentIfFit : {P : Type 0} → ConnPhase P → List (Outcome P) → Type 0
-AreSentIfFit (Unconnected opened) outcomes = outcomes ≡ []
-AreSentIfFit (Waiting request ticks) outcomes = outcomes ≡ []
-AreSentIfFit (Connected connected) outcomes = AllByRecursion (IsSentIfFit (hand_out_terms connected)) outcomes
-AreSentIfFit Ended outcomes = outcomes ≡ []
+-- so it is with all that a step hands out at this moment, under the terms of its client; where the connection has none after it, nothing is handed out
+abbrev pub AreSentIfFit : {P : Type 0} → ConnPhase P → ℕ → List (Outcome P) → Type 0
+AreSentIfFit (Unconnected opened) now outcomes = outcomes ≡ []
+AreSentIfFit (Waiting request ticks) now outcomes = outcomes ≡ []
+AreSentIfFit (Connected connected) now outcomes = AllByRecursion (IsSentIfFit (hand_out_terms connected now)) outcomes
+AreSentIfFit Ended now outcomes = outcomes ≡ []
 
--- the messages of what is handed out
-abbrev pub messages_of : {P : Type 0} → List (P × Held) → List Message
-messages_of hand_outs = map (λ h. h.1.message) hand_outs
+-- what of a message is the same whenever and under whatever identifier it goes out
+pub record Content : Type 0 where
+  pub topic : List ℕ
+  pub properties : PublishProperties
+  pub payload : List ℕ
 
--- the message that a PUBLISH brings to a member, with all the properties that stand apart from it. Of the two that are the PUBLISH's own a message has
--- none, and `job`, by which transcripts say each PUBLISH that is sent, has none of them either
-abbrev pub brought_by : Publish → Message
-brought_by publish = record { topic = publish.topic; properties = publish.properties; payload = publish.payload }
+abbrev pub content_of : Message → Content
+content_of message = record { topic = message.topic; properties = message.properties; payload = message.payload }
 
--- the message of a PUBLISH that was not sent before: its DUP is 0 (3.3.1.1)
-abbrev pub message_if_fresh : Bool → Publish → Option Message
-message_if_fresh true publish = None
-message_if_fresh false publish = Some (brought_by publish)
+-- that of what is handed out
+abbrev pub contents_of : {P : Type 0} → List (P × Held) → List Content
+contents_of hand_outs = map (λ h. content_of h.1.message) hand_outs
 
-abbrev pub fresh_message : Packet → Option Message
-fresh_message (packets.Publish publish) = message_if_fresh publish.dup publish
-fresh_message other = None
+-- that of the message that a PUBLISH brings to a member, with all the properties that stand apart from it. The two that are the PUBLISH's own, what is left
+-- of its interval and its Subscription Identifier, are told by the transcript
+abbrev pub content_in : Publish → Content
+content_in publish = record { topic = publish.topic; properties = publish.properties; payload = publish.payload }
 
--- the messages that these packets bring for the first time
-abbrev pub fresh_messages : List Packet → List Message
-fresh_messages sent = filter_map fresh_message sent
+-- that of a PUBLISH that was not sent before: its DUP is 0 (3.3.1.1)
+abbrev pub content_if_fresh : Bool → Publish → Option Content
+content_if_fresh true publish = None
+content_if_fresh false publish = Some (content_in publish)
+
+abbrev pub fresh_content : Packet → Option Content
+fresh_content (packets.Publish publish) = content_if_fresh publish.dup publish
+fresh_content other = None
+
+-- what these packets bring for the first time
+abbrev pub fresh_contents : List Packet → List Content
+fresh_contents sent = filter_map fresh_content sent
 
 -- a PUBLISH whose message is to be offered; any other is refused, or closes the connection
 abbrev pub IsToBeOffered : PublishAnswer → Type 0
 IsToBeOffered (answers.Close code) = ⊥
-IsToBeOffered (answers.Refuse identifier code) = ⊥
 IsToBeOffered (answers.Offer identifier) = ⊤
 
 -- a connection is given a PUBLISH whose message is to be offered
@@ -133,14 +142,14 @@ Confirms (Connected connected) (inputs.Packet (packets.Puback puback)) envelope 
     × Contains (held_of connected.session.window) (puback.packet_identifier, envelope) × (fate ≡ fate_of puback.reason_code)
 Confirms phase input envelope fate = ⊥
 
--- the calls of a step in which a message was brought: it is offered once to each group that the one match answers, in their order
-pub record OffersToEach {P : Type 0} (number : ℕ) (input : Input) (supply_calls : List (SupplyCall P)) : Type 0 where
+-- the calls of a step in which a message was brought at this moment: it is offered once to each group that the one match answers, in their order
+pub record OffersToEach {P : Type 0} (number now : ℕ) (input : Input) (supply_calls : List (SupplyCall P)) : Type 0 where
   pub publish : Publish
   pub came : input ≡ inputs.Packet (packets.Publish publish)
   pub accepted : IsToBeOffered (publish_answer publish)
   pub slots : List ℕ
   pub match : matched supply_calls ≡ (publish.topic, slots) ∷ []
-  pub offers : offered supply_calls ≡ map (λ slot. (slot, number, message_of publish)) slots
+  pub offers : offered supply_calls ≡ map (λ slot. (slot, number, message_of now publish)) slots
 
 -- the calls of any other step: nothing is offered; and none that brought a message is such a step, unless another connection took the session
 pub record OffersNone {P : Type 0} (phase : ConnPhase P) (input : Input) (supply_calls : List (SupplyCall P)) (next : Then) : Type 0 where
@@ -161,13 +170,13 @@ pub record SettlesNone {P : Type 0} (phase : ConnPhase P) (input : Input) (suppl
   pub unless : (envelope : Held) (fate : Fate) → Confirms phase input envelope fate → next ≡ thens.Kicked
 
 -- the calls of a step in which an allocation failed for a PUBLISH: its message was offered once to some of the groups, from the first on
-pub record OffersToSome {P : Type 0} (number : ℕ) (input : Input) (supply_calls : List (SupplyCall P)) : Type 0 where
+pub record OffersToSome {P : Type 0} (number now : ℕ) (input : Input) (supply_calls : List (SupplyCall P)) : Type 0 where
   pub publish : Publish
   pub came : input ≡ inputs.Packet (packets.Publish publish)
   pub slots : List ℕ
   pub others : List ℕ
   pub match : matched supply_calls ≡ (publish.topic, slots ++ others) ∷ []
-  pub offers : offered supply_calls ≡ map (λ slot. (slot, number, message_of publish)) slots
+  pub offers : offered supply_calls ≡ map (λ slot. (slot, number, message_of now publish)) slots
 
 -- a call by which a message is asked for, or whether one may be, or by which it is discarded
 abbrev pub AsksForMessage : {P : Type 0} → SupplyCall P → Type 0
@@ -202,27 +211,27 @@ module _ {S P : Type 0} (call : S → SupplyCall P → S → Type 0) where
   CallsLead old new = (supply_calls : List (SupplyCall P)) × MakesAll old supply_calls new
 
   -- the calls of a step, and what they offer, settle and hand out
-  pub record StepCalls (old : S) (number : ℕ) (phase : ConnPhase P) (input : Input) (sent : List Packet) (next : Then) (phase' : ConnPhase P) (new : S) : Type 0 where
+  pub record StepCalls (old : S) (number : ℕ) (phase : ConnPhase P) (now : ℕ) (input : Input) (sent : List Packet) (next : Then) (phase' : ConnPhase P) (new : S) : Type 0 where
     pub supply_calls : List (SupplyCall P)
     pub made : MakesAll old supply_calls new
-    pub offers : OffersToEach number input supply_calls ⊎ OffersNone phase input supply_calls next
+    pub offers : OffersToEach number now input supply_calls ⊎ OffersNone phase input supply_calls next
     -- what becomes of each hand-out
     pub outcomes : List (Outcome P)
     pub handed_out : handed supply_calls ≡ hand_outs_of outcomes
-    pub fit : AreSentIfFit phase' outcomes
+    pub fit : AreSentIfFit phase' now outcomes
     pub settles : SettlesOne phase input supply_calls (discards_of outcomes) ⊎ SettlesNone phase input supply_calls next (discards_of outcomes)
     -- what is not discarded of them is sent by this step, each message in a PUBLISH of its own, in their order; and no other is sent for the first time
-    pub hands : fresh_messages sent ≡ messages_of (sent_of outcomes)
+    pub hands : fresh_contents sent ≡ contents_of (sent_of outcomes)
     -- it is handed out last, to the place that the connection has after this step, one message after the other
     pub hands_last : HandsOutLast phase supply_calls phase'
     -- the connection has the places that it had, but for what these calls brought, took and changed
     pub places : KeepsPlaces (own_places phase) supply_calls (own_places phase')
 
   -- the calls of a step in which an allocation failed: after it the connection has no place any more
-  pub record FailedCalls (old : S) (number : ℕ) (phase : ConnPhase P) (input : Input) (new : S) : Type 0 where
+  pub record FailedCalls (old : S) (number : ℕ) (phase : ConnPhase P) (now : ℕ) (input : Input) (new : S) : Type 0 where
     pub supply_calls : List (SupplyCall P)
     pub made : MakesAll old supply_calls new
-    pub offers : OffersToSome number input supply_calls ⊎ (offered supply_calls ≡ [])
+    pub offers : OffersToSome number now input supply_calls ⊎ (offered supply_calls ≡ [])
     -- of what is handed out, some is discarded, and the rest is held
     pub outcomes : List (Outcome P)
     pub handed_out : handed supply_calls ≡ hand_outs_of outcomes

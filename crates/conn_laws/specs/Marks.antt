@@ -16,15 +16,15 @@ as_publish other = None
 abbrev pub publishes_in : List Packet → List Packet
 publishes_in sent = filter_map as_publish sent
 
--- the PUBLISH packet that a mark stands for
-abbrev pub publish_of : Mark Held → Option Packet
-publish_of (Up receive_maximum) = None
-publish_of (Sent identifier dup envelope) = Some (job dup envelope.message envelope.subscription identifier)
-publish_of (Acked identifier code) = None
-publish_of Down = None
+-- the PUBLISH packet that a mark stands for that was made at this moment
+abbrev pub publish_of : ℕ → Mark Held → Option Packet
+publish_of now (Up receive_maximum) = None
+publish_of now (Sent identifier dup envelope) = Some (job now dup envelope.message envelope.subscription identifier)
+publish_of now (Acked identifier code) = None
+publish_of now Down = None
 
-abbrev pub publishes_of : List (Mark Held) → List Packet
-publishes_of marks = filter_map publish_of marks
+abbrev pub publishes_of : ℕ → List (Mark Held) → List Packet
+publishes_of now marks = filter_map (publish_of now) marks
 
 -- what is sent for the first time, with DUP 0
 abbrev pub fresh_if : Bool → Held → Option Held

@@ -25,9 +25,9 @@ IsShort packet = length (written packet) ≤ most_bytes
 abbrev pub most_publish_bytes : ℕ
 most_publish_bytes = 65542
 
--- a message that is short in each PUBLISH in which it is handed on, under whatever Subscription Identifier
+-- a message that is short in each PUBLISH in which it is handed on, whenever that is and under whatever Subscription Identifier
 abbrev pub IsLight : Message → Type 0
-IsLight message = (dup : Bool) (subscription : Option ℕ) (identifier : ℕ) → IsShort (job dup message subscription identifier)
+IsLight message = (now : ℕ) (dup : Bool) (subscription : Option ℕ) (identifier : ℕ) → IsShort (job now dup message subscription identifier)
 
 -- a CONNACK that tells a client the identifier that it was given (3.2.2.3.7)
 pub record Assigns (packet : Packet) : Type 0 where
@@ -38,11 +38,12 @@ pub record Assigns (packet : Packet) : Type 0 where
 
 -- a PUBLISH that hands a message on (3.3)
 pub record HandsOn (packet : Packet) : Type 0 where
+  pub now : ℕ
   pub dup : Bool
   pub message : Message
   pub subscription : Option ℕ
   pub identifier : ℕ
-  pub is : packet ≡ job dup message subscription identifier
+  pub is : packet ≡ job now dup message subscription identifier
 
 -- what answers an input: small, or it assigns an identifier
 abbrev pub IsAnswer : Packet → Type 0

@@ -148,19 +148,19 @@ module _ {S P : Type 0} (call : S → SupplyCall P → S → Type 0) where
   SessionSteps old number (Some connected) (Some connected') marks new = SessionGoesOn old connected connected' marks new
   SessionSteps old number (Some connected) None marks new = SessionEnds old connected marks new
 
-  -- what a step adds to the transcript of the session that its connection has
-  pub record Transcribes (old : S) (number : ℕ) (phase : ConnPhase P) (input : Input) (sent : List Packet) (next : Then) (phase' : ConnPhase P) (new : S) : Type 0 where
+  -- what a step at this moment adds to the transcript of the session that its connection has
+  pub record Transcribes (old : S) (number : ℕ) (phase : ConnPhase P) (now : ℕ) (input : Input) (sent : List Packet) (next : Then) (phase' : ConnPhase P) (new : S) : Type 0 where
     pub marks : List (Mark Held)
     pub session : SessionSteps old number (connected_of phase) (connected_of phase') marks new
     -- the PUBLISH packets of the step are those of its marks, in their order
-    pub publishes : publishes_in sent ≡ publishes_of marks
+    pub publishes : publishes_in sent ≡ publishes_of now marks
     pub supply_calls : List (SupplyCall P)
     pub made : MakesAll call old supply_calls new
     -- of what is handed out, what the client may be sent is sent for the first time, in that order, under the session's Subscription Identifier, and the rest is discarded; and all
     -- is handed to the place of this session, as far as any number of a place tells that stays where the place is asked for a message, or settles one: its slot, its number in the group
     pub outcomes : List (Outcome P)
     pub handed_out : handed supply_calls ≡ hand_outs_of outcomes
-    pub fit : AreSentIfFit phase' outcomes
+    pub fit : AreSentIfFit phase' now outcomes
     pub hands : map (λ (h : P × Held). under (subscription_of (connected_of phase')) h.1) (sent_of outcomes) ≡ fresh_of marks
     pub own : (of : P → ℕ) → KeepsNumbers of → AllByRecursion (λ (h : P × Held). IsMemberAt of (connected_of phase') h.0) (hand_outs_of outcomes)
     -- what is acknowledged is settled, by the PUBACK that came; and nothing else is but what is discarded, after it. No PUBACK for what the session holds is passed over, unless

@@ -43,7 +43,7 @@ pub fn ended_law<P: HoldingPlace, S: Supply<P>>()
 pub fn eager_law<P: HoldingPlace, S: Supply<P>>()
     ensures { (number now : ℕ) (phase : ConnPhase P) (connected : ConnectedClient P) (input : Input) (packets : List Packet) (next : Then) (old new : S) →
         Steps S.call P.slot_of old number phase now input packets next (phases.Connected connected) new →
-        IsAllHandedOut S.call connected new }
+        IsAllHandedOut S.call connected now new }
 {}
 
 /// **The quota is kept** (section 4.9): of the PUBLISH packets that a connection sent, those that wait for their PUBACK are never more than the
@@ -74,17 +74,18 @@ pub fn identifier_law<P: HoldingPlace, S: Supply<P>>()
 ///   an allocation fails, to some of them, from the first on;
 /// - a message is settled only by a PUBACK under its identifier, once, as its Reason Code says, or else discarded by the step that was handed it;
 /// - what is handed out is sent by the same step, each message in a PUBLISH of its own with DUP 0, in their order, and no other packet
-///   brings a message for the first time; but a message that the client may not be sent is discarded, and no other is (section 3.1.2.11.4); where
+///   brings a message for the first time; but a message that has expired, or is too long for the client, is discarded, and no other is (sections 3.1.2.11.4 and
+///   3.3.2.3.3); where
 ///   an allocation fails nothing is sent;
 /// - it is handed to the place that the connection has then, by the last calls of the step, one after the other;
 /// - no place is lost and none is made: the connection has those that it had and that its calls brought, but for those that they took.
 pub fn calls_law<P: HoldingPlace, S: Supply<P>>()
     ensures stepped { (number now : ℕ) (phase phase' : ConnPhase P) (input : Input) (packets : List Packet) (next : Then) (old new : S) →
         Steps S.call P.slot_of old number phase now input packets next phase' new →
-        StepCalls S.call old number phase input packets next phase' new }
+        StepCalls S.call old number phase now input packets next phase' new }
     ensures failed { (number now : ℕ) (phase : ConnPhase P) (input : Input) (old new : S) →
         FailsToStep S.call P.slot_of old number phase now input new →
-        FailedCalls S.call old number phase input new }
+        FailedCalls S.call old number phase now input new }
 {}
 
 /// **A connection publishes as itself**: whatever a step offers to a group, it offers it from the number of its connection, and so does one that
@@ -127,5 +128,5 @@ pub fn one_step_law<P: HoldingPlace, S: Supply<P>>()
 pub fn transcript_law<P: HoldingPlace, S: Supply<P>>()
     ensures { (number now : ℕ) (phase phase' : ConnPhase P) (input : Input) (packets : List Packet) (next : Then) (old new : S) →
         Steps S.call P.slot_of old number phase now input packets next phase' new →
-        IsNotEnding phase → Transcribes S.call old number phase input packets next phase' new }
+        IsNotEnding phase → Transcribes S.call old number phase now input packets next phase' new }
 {}

@@ -26,14 +26,14 @@ use conn_supply::{HoldingPlace, Supply};
 /// (3.3.2.3). Where it came with a Packet Identifier, the PUBLISH that hands it on without a Subscription Identifier is no longer than the one
 /// that brought it (`no_longer`), and with one it has at most 65,542 bytes (`taken`); and in any case it is short (`light`).
 pub fn forwarded_law()
-    ensures no_longer { (publish : Publish) (bytes : List ℕ) (dup : Bool) (identifier : ℕ) →
+    ensures no_longer { (publish : Publish) (bytes : List ℕ) (came now : ℕ) (dup : Bool) (identifier : ℕ) →
         Spells (packets.Publish publish) bytes → publish.delivery ≢ AtMostOnce →
-        length (written (job dup (message_of publish) None identifier)) ≤ length bytes }
-    ensures taken { (publish : Publish) (bytes : List ℕ) (dup : Bool) (subscription : Option ℕ) (identifier : ℕ) →
+        length (written (job now dup (message_of came publish) None identifier)) ≤ length bytes }
+    ensures taken { (publish : Publish) (bytes : List ℕ) (came now : ℕ) (dup : Bool) (subscription : Option ℕ) (identifier : ℕ) →
         Spells (packets.Publish publish) bytes → publish.delivery ≢ AtMostOnce →
-        length (written (job dup (message_of publish) subscription identifier)) ≤ most_publish_bytes }
-    ensures light { (publish : Publish) (bytes : List ℕ) →
-        Spells (packets.Publish publish) bytes → IsLight (message_of publish) }
+        length (written (job now dup (message_of came publish) subscription identifier)) ≤ most_publish_bytes }
+    ensures light { (publish : Publish) (bytes : List ℕ) (came : ℕ) →
+        Spells (packets.Publish publish) bytes → IsLight (message_of came publish) }
 {}
 
 /// **How long the other packets are** that the broker sends: a CONNACK (section 3.2) that accepts, with no identifier, with one that the

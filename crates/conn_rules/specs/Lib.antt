@@ -1,4 +1,5 @@
 pub mod Connecting
+pub mod Expiring
 pub mod Publishing
 pub mod Acknowledging
 pub mod Subscribing

@@ -7,6 +7,7 @@ use Rattle.mqtt_packet.specs.declared.packet.Packet.{Packet}
 use Rattle.mqtt_packet.specs.declared.packet.Packet.TheVariants as packets
 use Rattle.group_jobs.specs.declared.message.Message.{Message}
 use Rattle.conn_rules.specs.Connecting.{offer}
+use Rattle.conn_rules.specs.Expiring.{interval_left}
 
 -- 3.2: the CONNACK that opens a connection, with the identifier that was assigned to a client without one
 abbrev pub accepting : Bool → Option (List ℕ) → Packet
@@ -17,13 +18,13 @@ abbrev pub refusing : ConnectRefusal → Packet
 refusing refusal = packets.Connack (Refused refusal)
 
 -- 3.3: a message as it goes out: QoS 1, RETAIN 0, and DUP 1 where it was sent before, with the Subscription Identifier under which it
--- is sent (3.3.2.3.8)
-abbrev pub job : Bool → Message → Option ℕ → ℕ → Packet
-job dup message subscription identifier = packets.Publish (record {
+-- is sent (3.3.2.3.8), and with what is left of its Message Expiry Interval at that moment (3.3.2.3.3)
+abbrev pub job : ℕ → Bool → Message → Option ℕ → ℕ → Packet
+job now dup message subscription identifier = packets.Publish (record {
   dup = dup;
   retain = false;
   delivery = AtLeastOnce identifier;
-  message_expiry_interval = None;
+  message_expiry_interval = interval_left now message.expiry;
   subscription_identifier = subscription;
   topic = message.topic;
   properties = message.properties;

@@ -7,8 +7,9 @@ use Rattle.mqtt_packet.specs.declared.packet.Delivery.TheVariants.{AtMostOnce, A
 use Rattle.mqtt_packet.specs.declared.packet_properties.PublishProperties.{PublishProperties}
 use Rattle.mqtt_topic.specs.Levels.{is_wildcard}
 use Rattle.group_jobs.specs.declared.message.Message.{Message}
+use Rattle.conn_rules.specs.Expiring.{expiry_from}
 use Rattle.conn_rules.specs.declared.publishing.PublishAnswer.{PublishAnswer}
-use Rattle.conn_rules.specs.declared.publishing.PublishAnswer.TheVariants.{Close, Refuse, Offer}
+use Rattle.conn_rules.specs.declared.publishing.PublishAnswer.TheVariants.{Close, Offer}
 
 -- the Reason Code with which a PUBLISH of QoS 1 closes the connection: RETAIN 9A (3.2.2.3.5), a Topic Alias 94 (3.3.2.3.4; for 0
 -- too, profile), an empty topic 82 (3.3.2.1), a wildcard in it 81 (3.3.2.1; the code is the profile's)
@@ -19,15 +20,13 @@ closing_code publish =
     else (if length publish.topic == 0 then Some 0x82
     else (if list_any is_wildcard publish.topic then Some 0x81 else None)))
 
--- a message that expires is refused with 83 (profile, for now)
-abbrev pub identified_answer : Option ℕ → ℕ → Publish → PublishAnswer
-identified_answer (Some code) identifier publish = Close code
-identified_answer None identifier publish =
-    if is_some publish.message_expiry_interval then Refuse identifier 0x83 else Offer identifier
+abbrev pub identified_answer : Option ℕ → ℕ → PublishAnswer
+identified_answer (Some code) identifier = Close code
+identified_answer None identifier = Offer identifier
 
 -- 3.3.4: a PUBLISH of QoS 1 is acknowledged; QoS 2 is not supported (3.2.2.3.4), and QoS 0 is not served (profile)
 abbrev pub delivery_answer : Delivery → Publish → PublishAnswer
-delivery_answer (AtLeastOnce identifier) publish = identified_answer (closing_code publish) identifier publish
+delivery_answer (AtLeastOnce identifier) publish = identified_answer (closing_code publish) identifier
 delivery_answer AtMostOnce publish = Close 0x83
 delivery_answer (ExactlyOnce identifier) publish = Close 0x9B
 
@@ -42,6 +41,11 @@ puback_code matched taken = if matched == 0 then 0x10 else (if nat_lt taken matc
 abbrev pub forwarded : PublishProperties → PublishProperties
 forwarded properties = record properties { topic_alias = None }
 
--- the message of a PUBLISH: its topic, the properties that go with it, and its payload (3.3.2.3), without how long it lasts
-abbrev pub message_of : Publish → Message
-message_of publish = record { topic = publish.topic; properties = forwarded publish.properties; payload = publish.payload }
+-- the message of a PUBLISH that came at this moment: its topic, when it expires, the properties that go with it, and its payload (3.3.2.3)
+abbrev pub message_of : ℕ → Publish → Message
+message_of now publish = record {
+  topic = publish.topic;
+  expiry = expiry_from now publish.message_expiry_interval;
+  properties = forwarded publish.properties;
+  payload = publish.payload;
+}

@@ -1,7 +1,8 @@
-//! Which messages a client is not sent (section 3.1.2.11.4).
+//! Which messages a client is not sent (sections 3.1.2.11.4 and 3.3.2.3.3).
 ghost use Rattle.std.specs.Prelude.{◌≡◌, IfOk};
-ghost use Rattle.conn_rules.specs.HandOuts.{is_too_long, is_big, is_discarded};
+ghost use Rattle.conn_rules.specs.HandOuts.{is_too_long, is_message_too_long, is_discarded};
 
+use crate::expiring::is_expired;
 use crate::packets::job;
 use group_jobs::Message;
 use mqtt_packet::{MaximumPacketSize, Packet, PacketIdentifier, SubscriptionIdentifier};
@@ -11,21 +12,26 @@ use std::alloc::AllocError;
 /// What a session's client is sent its messages under.
 #[derive(Clone, Copy, Debug, PartialEq, Eq)]
 pub struct HandOutTerms {
+    /// The moment, in milliseconds.
+    pub at: u64,
     /// The Subscription Identifier of the session's subscription, if that has one (section 3.3.2.3.8).
     pub subscription: Option<SubscriptionIdentifier>,
     /// The most bytes of a packet that the client takes, if it named them (section 3.1.2.11.4).
     pub maximum_packet_size: Option<MaximumPacketSize>,
 }
 
-/// Whether a message that a client is handed is discarded, as it may not be sent under these terms.
+/// Whether a message that a client is handed is discarded, as it has expired then, or is too long for the client.
 ///
 /// # Errors
 ///
-/// As of [`is_big`].
+/// As of [`is_message_too_long`].
 pub fn is_discarded(message: &Message, terms: &HandOutTerms) -> Result<bool, AllocError>
     ensures { IfOk result (λ discarded. discarded ≡ is_discarded terms.now message.now) }
 {
-    is_big(message, terms.subscription, terms.maximum_packet_size)
+    if is_expired(terms.at, message.expiry) {
+        return Ok(true);
+    }
+    is_message_too_long(message, terms.subscription, terms.maximum_packet_size)
 }
 
 /// Whether the PUBLISH of a message under this Subscription Identifier is longer than a client of this Maximum Packet Size takes. It takes no memory.
@@ -33,17 +39,17 @@ pub fn is_discarded(message: &Message, terms: &HandOutTerms) -> Result<bool, All
 /// # Errors
 ///
 /// There are as many owners as can be counted of what a PUBLISH shares with its message.
-pub fn is_big(
+pub fn is_message_too_long(
     message: &Message,
     subscription: Option<SubscriptionIdentifier>,
     maximum_packet_size: Option<MaximumPacketSize>,
 ) -> Result<bool, AllocError>
-    ensures { IfOk result (λ big. big ≡ is_big maximum_packet_size subscription message.now) }
+    ensures { IfOk result (λ big. big ≡ is_message_too_long maximum_packet_size subscription message.now) }
 {
     if maximum_packet_size.is_none() {
         return Ok(false);
     }
-    let packet = job(false, message, subscription, first_identifier())?;
+    let packet = job(0, false, message, subscription, first_identifier())?;
     Ok(is_too_long(&packet, maximum_packet_size))
 }
 

@@ -11,6 +11,7 @@
 
 mod acknowledging;
 mod connecting;
+mod expiring;
 mod faults;
 mod hand_outs;
 mod keep_alive;
@@ -22,8 +23,9 @@ mod terms;
 
 pub use acknowledging::fate_of;
 pub use connecting::{FirstAnswer, answer_to_connect, answer_to_first, offer};
+pub use expiring::{interval_left, is_expired};
 pub use faults::{fault_code, fault_refusal};
-pub use hand_outs::{HandOutTerms, is_big, is_discarded};
+pub use hand_outs::{HandOutTerms, is_discarded, is_message_too_long};
 pub use keep_alive::{CONNECT_TIMEOUT, is_late, is_overdue, longest_silence};
 pub use packets::{accepting, disconnect, job, message_of, puback, refusing, suback, unsuback};
 pub use publishing::{PublishAnswer, answer_to_publish, closing_code, puback_code};

@@ -4,6 +4,7 @@ ghost use Rattle.conn_rules.specs.Packets.{accepting, refusing, job, puback, sub
 ghost use Rattle.conn_rules.specs.Publishing.{message_of};
 
 use crate::connecting::offer;
+use crate::expiring::{expiry_from, interval_left};
 use group_jobs::Message;
 use mqtt_packet::{
     Acceptance, Connack, ConnectRefusal, Delivery, Disconnect, DisconnectProperties, NonEmpty,
@@ -31,18 +32,20 @@ pub fn refusing(refusal: ConnectRefusal) -> Packet
 }
 
 /// The PUBLISH of a job (section 3.3): QoS 1, RETAIN 0, and DUP 1 where it was sent before; with the Subscription Identifier under which it
-/// is sent, if there is one (section 3.3.2.3.8). It shares what the message has, and takes no memory.
+/// is sent, if there is one (section 3.3.2.3.8), and with what is left of its Message Expiry Interval at that moment, in milliseconds (section
+/// 3.3.2.3.3). It shares what the message has, and takes no memory.
 ///
 /// # Errors
 ///
 /// There are as many owners as can be counted of what it shares.
 pub fn job(
+    now: u64,
     dup: bool,
     message: &Message,
     subscription: Option<SubscriptionIdentifier>,
     identifier: PacketIdentifier,
 ) -> Result<Packet, AllocError>
-    ensures { IfOk result (λ packet. packet ≡ job dup message.now subscription identifier) }
+    ensures { IfOk result (λ packet. packet ≡ job now dup message.now subscription identifier) }
 {
     let topic = message.topic.try_clone()?;
     let properties = message.properties.share()?;
@@ -51,7 +54,7 @@ pub fn job(
         dup,
         retain: false,
         delivery: Delivery::AtLeastOnce(identifier),
-        message_expiry_interval: None,
+        message_expiry_interval: interval_left(now, message.expiry),
         subscription_identifier: subscription,
         topic,
         properties,
@@ -59,15 +62,15 @@ pub fn job(
     }))
 }
 
-/// The message of a PUBLISH that is offered to groups: its topic, its properties, and its payload (section 3.3.2.3). Such a PUBLISH has only
-/// properties that go with its message.
-pub fn message_of(publish: Publish) -> Message
-    requires lasting { publish.message_expiry_interval ≡ None }
-    requires named { publish.properties.topic_alias ≡ None }
-    ensures { result ≡ message_of publish }
+/// The message of a PUBLISH that came at this moment, in milliseconds, and is offered to groups: its topic, when it expires, its properties, and its
+/// payload (section 3.3.2.3). Such a PUBLISH has no Topic Alias.
+pub fn message_of(now: u64, publish: Publish) -> Message
+    requires { publish.properties.topic_alias ≡ None }
+    ensures { result ≡ message_of now publish }
 {
     Message {
         topic: publish.topic,
+        expiry: expiry_from(now, publish.message_expiry_interval),
         properties: publish.properties,
         payload: publish.payload,
     }

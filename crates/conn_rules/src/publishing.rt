@@ -11,8 +11,6 @@ use mqtt_packet::{Delivery, PacketIdentifier, Publish, ReasonCode};
 pub enum PublishAnswer {
     /// The connection is closed with a DISCONNECT of this Reason Code.
     Close(ReasonCode),
-    /// It is refused by a PUBACK of this Reason Code, under this identifier.
-    Refuse(PacketIdentifier, ReasonCode),
     /// It is offered to the groups that it matches, and the PUBACK goes under this identifier.
     Offer(PacketIdentifier),
 }
@@ -28,15 +26,12 @@ pub fn answer_to_publish(publish: &Publish) -> PublishAnswer
     }
 }
 
-/// What becomes of a PUBLISH of QoS 1 under that identifier. One that expires (section 3.3.2.3.3) is refused (profile, for now).
+/// What becomes of a PUBLISH of QoS 1 under that identifier.
 fn answer_under(identifier: PacketIdentifier, publish: &Publish) -> PublishAnswer
-    ensures { result ≡ identified_answer (closing_code publish.now) identifier publish.now }
+    ensures { result ≡ identified_answer (closing_code publish.now) identifier }
 {
     match closing_code(publish) {
         Some(code) => PublishAnswer::Close(code),
-        None if publish.message_expiry_interval.is_some() => {
-            PublishAnswer::Refuse(identifier, ReasonCode::IMPLEMENTATION_SPECIFIC_ERROR)
-        }
         None => PublishAnswer::Offer(identifier),
     }
 }

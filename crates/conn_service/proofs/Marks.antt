@@ -1,8 +1,10 @@
 -- The marks of all steps of a life, one after the other, are legal.
-use Rattle.std.proofs.Common.{◌≡◌, ◌≢◌, ◌⊎◌, ℕ, Bool, false, List, [], ◌∷◌, ◌++◌, Option, Some, None, Ok, Err, IsSome, refl, sym, ap, subst, ◌∙◌, append-nil, inl, inr}
+use Rattle.std.proofs.Common.{◌≡◌, ◌≢◌, ◌⊎◌, ℕ, Bool, false, List, [], ◌∷◌, ◌++◌, map, Option, Some, None, Ok, Err, IsSome, refl, sym, ap, subst, ◌∙◌, append-nil, inl, inr}
 use Rattle.std.specs.List.{AllByRecursion}
+use Rattle.std.specs.List.{cons_option}
 use Rattle.std.specs.Option.{is_some}
 use Rattle.std.proofs.lemmas.Bool.{false≢true}
+use Rattle.std.proofs.lemmas.List.{map-append}
 use Rattle.std.proofs.lemmas.List.Elements.{filter_map-append}
 use Rattle.mqtt_packet.specs.declared.packet.Packet.{Packet}
 use Rattle.transport.specs.declared.counts.Counts.{Counts}
@@ -35,7 +37,7 @@ use Rattle.conn_service.specs.Services.{ServiceState}
 use Rattle.conn_service.specs.Acts.{Act, Enters, Leaves, Asks, Reads, Writes, Steps, Loses, Fails, Starves, IsFull, IsStopped, Stalls, GivesUp, Ends, Others, packets_sent_in, packets_sent}
 use Rattle.conn_service.specs.Moments.{fed_by}
 use Rattle.conn_service.specs.Lives.{Does}
-use Rattle.conn_service.specs.Sessions.{IsGiven, IsLegalLife}
+use Rattle.conn_service.specs.Sessions.{TimedMark, marks_in, timed_publish, timed_publishes, IsGiven, IsLegalLife}
 use Rattle.conn_service.proofs.Folding.{one_more}
 
 -- a transcript is legal from what a window held, and another window stands where it leads
@@ -96,6 +98,21 @@ stays_up (call ∷ calls) old new up within made =
     let parts = first_within (marks_of call) (transcript_of calls) within in
     stays_up calls made.1.0 new (stays_up_once call old made.1.0 up parts.0 made.0 made.1.1) parts.1 made.1.2
 
+-- marks that were all made at one moment
+abbrev at_moment : ℕ → List (Mark Held) → List TimedMark
+at_moment now marks = map (λ (mark : Mark Held). (now, mark)) marks
+
+marks_at : (now : ℕ) (marks : List (Mark Held)) → marks_in (at_moment now marks) ≡ marks
+marks_at now [] = refl
+marks_at now (mark ∷ marks) = ap (λ (l : List (Mark Held)). mark ∷ l) (marks_at now marks)
+
+timed_at : (now : ℕ) (marks : List (Mark Held)) → timed_publishes (at_moment now marks) ≡ publishes_of now marks
+timed_at now [] = refl
+timed_at now (mark ∷ marks) = ap (λ (l : List Packet). cons_option (publish_of now mark) l) (timed_at now marks)
+
+marks_behind : (now : ℕ) (timed : List TimedMark) (marks : List (Mark Held)) → marks_in (timed ++ at_moment now marks) ≡ marks_in timed ++ marks
+marks_behind now timed marks = map-append (λ (mark : TimedMark). mark.1) timed (at_moment now marks) ∙ ap (λ (l : List (Mark Held)). marks_in timed ++ l) (marks_at now marks)
+
 -- what was said so far, and what is said then
 publishes_on : (done : List Act) (act : Act) → publishes_in (packets_sent (done ++ act ∷ [])) ≡ publishes_in (packets_sent done) ++ publishes_in (packets_sent_in act)
 publishes_on done act = ap publishes_in (one_more packets_sent_in done act) ∙ filter_map-append as_publish (packets_sent done) (packets_sent_in act)
@@ -109,9 +126,9 @@ module _ {S P : Type 0} (call : S → SupplyCall P → S → Type 0) where
   LegalAt first told Ended = IsLegalFrom (window_state first) told
 
   pub record Tells (done : List Act) (first : Contents Held) (phase : ConnPhase P) : Type 0 where
-    pub marks : List (Mark Held)
-    pub publishes : publishes_in (packets_sent done) ≡ publishes_of marks
-    pub legal : LegalAt first marks phase
+    pub timed : List TimedMark
+    pub publishes : publishes_in (packets_sent done) ≡ timed_publishes timed
+    pub legal : LegalAt first (marks_in timed) phase
 
   pub record HasSession (number : ℕ) (done : List Act) (phase : ConnPhase P) : Type 0 where
     pub session : Session Held P
@@ -135,7 +152,7 @@ module _ {S P : Type 0} (call : S → SupplyCall P → S → Type 0) where
         has.session,
         has.given,
         λ sound going. let it = has.tells sound going in
-            record { marks = it.marks; publishes = it.publishes; legal = legal_at has.session.window it.marks phase it.legal },
+            record { timed = it.timed; publishes = it.publishes; legal = legal_at has.session.window (marks_in it.timed) phase it.legal },
       )
 
   -- an act that says nothing, and leaves how far the connection has come
@@ -149,7 +166,7 @@ module _ {S P : Type 0} (call : S → SupplyCall P → S → Type 0) where
         session = has.session;
         given = has.given;
         keeps = has.keeps;
-        tells = λ sound going. let it = has.tells sound going in record { marks = it.marks; publishes = same ∙ it.publishes; legal = it.legal };
+        tells = λ sound going. let it = has.tells sound going in record { timed = it.timed; publishes = same ∙ it.publishes; legal = it.legal };
       }))
 
   -- an act that says nothing, and ends it
@@ -164,7 +181,7 @@ module _ {S P : Type 0} (call : S → SupplyCall P → S → Type 0) where
         given = has.given;
         keeps = tt;
         tells = λ sound going. let it = has.tells sound going in
-            record { marks = it.marks; publishes = same ∙ it.publishes; legal = legal_at has.session.window it.marks old it.legal };
+            record { timed = it.timed; publishes = same ∙ it.publishes; legal = legal_at has.session.window (marks_in it.timed) old it.legal };
       }))
 
   not_ending_none : (phase : ConnPhase P) → connected_of phase ≡ None → IsNotEnding phase
@@ -174,16 +191,16 @@ module _ {S P : Type 0} (call : S → SupplyCall P → S → Type 0) where
   not_ending_none Ended none = tt
 
   -- a step before there is a session
-  begins_at : (number : ℕ) (done : List Act) (act : Act) (packets : List Packet) (phase' : ConnPhase P) (told : List (Mark Held)) (supply supply' : S) → packets_sent_in act ≡ packets
-      → publishes_in (packets_sent done) ≡ [] → publishes_in packets ≡ publishes_of told
+  begins_at : (number now : ℕ) (done : List Act) (act : Act) (packets : List Packet) (phase' : ConnPhase P) (told : List (Mark Held)) (supply supply' : S) → packets_sent_in act ≡ packets
+      → publishes_in (packets_sent done) ≡ [] → publishes_in packets ≡ publishes_of now told
       → SessionSteps call supply number None (connected_of phase') told supply' → IsAt number (done ++ act ∷ []) phase'
-  begins_at number done act packets (Unconnected opened) told supply supply' said before publishes turns =
-      inl (publishes_on done act ∙ (λ i. before i ++ (ap publishes_in said ∙ publishes ∙ ap publishes_of turns.0) i), refl)
-  begins_at number done act packets (Waiting request ticks) told supply supply' said before publishes turns =
-      inl (publishes_on done act ∙ (λ i. before i ++ (ap publishes_in said ∙ publishes ∙ ap publishes_of turns.0) i), refl)
-  begins_at number done act packets Ended told supply supply' said before publishes turns =
-      inl (publishes_on done act ∙ (λ i. before i ++ (ap publishes_in said ∙ publishes ∙ ap publishes_of turns.0) i), refl)
-  begins_at number done act packets (Connected connected) told supply supply' said before publishes turns =
+  begins_at number now done act packets (Unconnected opened) told supply supply' said before publishes turns =
+      inl (publishes_on done act ∙ (λ i. before i ++ (ap publishes_in said ∙ publishes ∙ ap (publishes_of now) turns.0) i), refl)
+  begins_at number now done act packets (Waiting request ticks) told supply supply' said before publishes turns =
+      inl (publishes_on done act ∙ (λ i. before i ++ (ap publishes_in said ∙ publishes ∙ ap (publishes_of now) turns.0) i), refl)
+  begins_at number now done act packets Ended told supply supply' said before publishes turns =
+      inl (publishes_on done act ∙ (λ i. before i ++ (ap publishes_in said ∙ publishes ∙ ap (publishes_of now) turns.0) i), refl)
+  begins_at number now done act packets (Connected connected) told supply supply' said before publishes turns =
       inr (record {
         session = turns.session;
         given = record {
@@ -199,37 +216,39 @@ module _ {S P : Type 0} (call : S → SupplyCall P → S → Type 0) where
         tells = λ sound going.
             let up = stays_up turns.calls (after_up turns.session.window connected.terms.receive_maximum) connected.session.window (refl, going) turns.within turns.made in
             record {
-              marks = told;
-              publishes = publishes_on done act ∙ (λ i. before i ++ (ap publishes_in said ∙ publishes) i);
-              legal = subst (λ (m : List (Mark Held)). Leads turns.session.window m connected.session.window) (sym turns.marks_are)
+              timed = at_moment now told;
+              publishes = publishes_on done act ∙ (λ i. before i ++ (ap publishes_in said ∙ publishes ∙ sym (timed_at now told)) i);
+              legal = subst (λ (m : List (Mark Held)). Leads turns.session.window m connected.session.window) (sym (marks_at now told ∙ turns.marks_are))
                   (leads_by turns.session.window [] turns.session.window connected.session.window (Up connected.terms.receive_maximum ∷ turns.calls) (legal_calls turns.session.window turns.session.window [] sound going refl) refl sound going
                   (going, (after_up turns.session.window connected.terms.receive_maximum, refl, turns.made)) up);
             };
       })
 
   -- a step of a connection that has its session
-  goes_tells : (done : List Act) (act : Act) (packets : List Packet) (number : ℕ) (input : Input) (next : Then) (first : Contents Held) (connected : ConnectedClient P) (phase' : ConnPhase P) (supply supply' : S)
+  goes_tells : (done : List Act) (act : Act) (packets : List Packet) (number now : ℕ) (input : Input) (next : Then) (first : Contents Held) (connected : ConnectedClient P) (phase' : ConnPhase P) (supply supply' : S)
       → packets_sent_in act ≡ packets → KeepsOrEnds phase' → (it : Tells done first (Connected connected))
-      → Transcribes call supply number (Connected connected) input packets next phase' supply' → Tells (done ++ act ∷ []) first phase'
-  goes_tells done act packets number input next first connected (Unconnected opened) supply supply' said keeps it step = absurd keeps
-  goes_tells done act packets number input next first connected (Waiting request ticks) supply supply' said keeps it step = absurd keeps
-  goes_tells done act packets number input next first connected (Connected connected') supply supply' said keeps it step =
+      → Transcribes call supply number (Connected connected) now input packets next phase' supply' → Tells (done ++ act ∷ []) first phase'
+  goes_tells done act packets number now input next first connected (Unconnected opened) supply supply' said keeps it step = absurd keeps
+  goes_tells done act packets number now input next first connected (Waiting request ticks) supply supply' said keeps it step = absurd keeps
+  goes_tells done act packets number now input next first connected (Connected connected') supply supply' said keeps it step =
       let within = subst (AllByRecursion IsWithin) step.session.marks_are step.session.within in
       let up = stays_up step.session.calls connected.session.window connected'.session.window it.legal.up within step.session.made in
       record {
-        marks = it.marks ++ step.marks;
+        timed = it.timed ++ at_moment now step.marks;
         publishes =
-            publishes_on done act ∙ (λ i. it.publishes i ++ (ap publishes_in said ∙ step.publishes) i) ∙ sym (filter_map-append publish_of it.marks step.marks);
-        legal = subst (λ (m : List (Mark Held)). Leads first (it.marks ++ m) connected'.session.window) (sym step.session.marks_are)
-            (leads_by first it.marks connected.session.window connected'.session.window step.session.calls it.legal.legal it.legal.stands it.legal.sound it.legal.up.1 step.session.made up);
+            publishes_on done act ∙ (λ i. it.publishes i ++ (ap publishes_in said ∙ step.publishes ∙ sym (timed_at now step.marks)) i)
+            ∙ sym (filter_map-append timed_publish it.timed (at_moment now step.marks));
+        legal = subst (λ (m : List (Mark Held)). Leads first m connected'.session.window) (sym (marks_behind now it.timed step.marks ∙ ap (λ (m : List (Mark Held)). marks_in it.timed ++ m) step.session.marks_are))
+            (leads_by first (marks_in it.timed) connected.session.window connected'.session.window step.session.calls it.legal.legal it.legal.stands it.legal.sound it.legal.up.1 step.session.made up);
       }
-  goes_tells done act packets number input next first connected Ended supply supply' said keeps it step =
+  goes_tells done act packets number now input next first connected Ended supply supply' said keeps it step =
       record {
-        marks = it.marks ++ step.marks;
+        timed = it.timed ++ at_moment now step.marks;
         publishes =
-            publishes_on done act ∙ (λ i. it.publishes i ++ (ap publishes_in said ∙ step.publishes) i) ∙ sym (filter_map-append publish_of it.marks step.marks);
-        legal = subst (λ (m : List (Mark Held)). IsLegalFrom (window_state first) (it.marks ++ m)) (sym step.session.marks_are)
-            (legal_on first it.marks connected.session.window (after_down connected.session.window) (Down ∷ []) it.legal.legal it.legal.stands it.legal.sound it.legal.up.1
+            publishes_on done act ∙ (λ i. it.publishes i ++ (ap publishes_in said ∙ step.publishes ∙ sym (timed_at now step.marks)) i)
+            ∙ sym (filter_map-append timed_publish it.timed (at_moment now step.marks));
+        legal = subst (λ (m : List (Mark Held)). IsLegalFrom (window_state first) m) (sym (marks_behind now it.timed step.marks ∙ ap (λ (m : List (Mark Held)). marks_in it.timed ++ m) step.session.marks_are))
+            (legal_on first (marks_in it.timed) connected.session.window (after_down connected.session.window) (Down ∷ []) it.legal.legal it.legal.stands it.legal.sound it.legal.up.1
             (tt, (after_down connected.session.window, refl, refl)));
       }
 
@@ -251,7 +270,7 @@ module _ {S P T : Type 0} (call : S → SupplyCall P → S → Type 0) (begins e
         keeps = keeps;
         tells = λ sound going.
             let it = has.tells sound going in
-            goes_tells call done act packets number input next has.session.window connected phase' supply supply' said keeps it
+            goes_tells call done act packets number now input next has.session.window connected phase' supply supply' said keeps it
             (transcribed call slot_of supply supply' number now (Connected connected) phase' input packets next steps it.legal.up.1);
       }
 
@@ -259,7 +278,7 @@ module _ {S P T : Type 0} (call : S → SupplyCall P → S → Type 0) (begins e
       → phase ≢ Ended → StepsSo supply number phase now input packets next phase' supply' → IsAt call number done phase → IsAt call number (done ++ act ∷ []) phase'
   step_at number now done act input packets next phase phase' supply supply' said not_over steps (inl before) =
       let step = transcribed call slot_of supply supply' number now phase phase' input packets next steps (not_ending_none call phase before.1) in
-      begins_at call number done act packets phase' step.marks supply supply' said before.0 step.publishes
+      begins_at call number now done act packets phase' step.marks supply supply' said before.0 step.publishes
       (subst (λ (l : Option (ConnectedClient P)). SessionSteps call supply number l (connected_of phase') step.marks supply') before.1 step.session)
   step_at number now done act input packets next phase phase' supply supply' said not_over steps (inr has) =
       inr (with_session number now done act input packets next phase phase' supply supply' said not_over steps has)

@@ -16,13 +16,13 @@ use Rattle.conn_service.specs.Sessions.{TellsItsSession, TellsOfLastStep}
 module _ {S P T : Type 0} (call : S → SupplyCall P → S → Type 0) (begins ends : S → S → Type 0) (visiting : S → Bool) (slot_of : P → ℕ)
     (counts : T → Counts) (given accepted : T → Option (List ℕ)) where
   given_up : (now : ℕ) (client client' : ClientState P) (supply supply' : S) → IsGivenUp call slot_of supply client now inputs.EndOfInput client' supply'
-      → TellsOfLastStep call client.conn.number client.conn.phase supply client'.conn.phase supply'
+      → TellsOfLastStep call client.conn.number client.conn.phase (moment_of client now) supply client'.conn.phase supply'
   given_up now client client' supply supply' (inl moved) =
       let at = moment_of client now in
       let none = silent call slot_of supply supply' client.conn.number at client.conn.phase client'.conn.phase moved.0.packets moved.0.next moved.1.stepped in
       inl (
         moved.0.next,
-        (λ going. subst (λ packets. Transcribes call supply client.conn.number client.conn.phase inputs.EndOfInput packets moved.0.next client'.conn.phase supply') none
+        (λ going. subst (λ packets. Transcribes call supply client.conn.number client.conn.phase at inputs.EndOfInput packets moved.0.next client'.conn.phase supply') none
             (transcribed call slot_of supply supply' client.conn.number at client.conn.phase client'.conn.phase inputs.EndOfInput moved.0.packets moved.0.next moved.1.stepped going)),
       )
   given_up now client client' supply supply' (inr failed) =

@@ -77,7 +77,7 @@ module _ {S P : Type 0} (call : S → SupplyCall P → S → Type 0) (terms : Ha
   -- it is put into the window, in which nothing has changed
   pub sent_one : (old new : S) (place place' : P) (window now window' : Contents Held) (packet : Packet) (envelope : Held) (identifier : ℕ) → now ≡ window → HasRoom window
       → LooksFor call terms old place (Some envelope) place' new → IsLeastFree (identifiers (held_of now)) identifier → window' ≡ after_put now identifier (under terms.subscription envelope)
-      → packet ≡ job false envelope.message terms.subscription identifier → HoldsMore now window'
+      → packet ≡ job terms.at false envelope.message terms.subscription identifier → HoldsMore now window'
       → SendsOne call terms old place window packet place' window' new × HoldsMore window window'
   sent_one old new place place' window now window' packet envelope identifier same room found free put sent more = (
     record {

@@ -8,7 +8,8 @@ use Rattle.mqtt_packet.specs.declared.packet.Publish.{Publish}
 use Rattle.mqtt_topic.specs.Levels.{is_wildcard}
 use Rattle.mqtt_topic.specs.Names.{name_of}
 use Rattle.conn_rules.specs.declared.publishing.PublishAnswer.TheVariants.{Offer}
-use Rattle.conn_rules.specs.Publishing.{closing_code, identified_answer, delivery_answer, publish_answer}
+use Rattle.conn_rules.specs.Publishing.{closing_code, delivery_answer, publish_answer}
+use Rattle.conn_supply.proofs.Offered.{none_closes}
 
 -- a text with a character and without wildcards
 named_by : (topic : List ℕ) (wild : Bool) → list_any is_wildcard topic ≡ wild
@@ -25,14 +26,10 @@ named_if true alias topic none = grind arith
 named_if false true topic none = grind arith
 named_if false false topic none = named_by topic _ refl none
 
-named_under : (code : Option ℕ) (identifier wanted : ℕ) (publish : Publish) → identified_answer code identifier publish ≡ Offer wanted → code ≡ None
-named_under (Some code) identifier wanted publish is = grind arith
-named_under None identifier wanted publish is = refl
-
 named_for : (delivery : Delivery) (wanted : ℕ) (publish : Publish) → delivery_answer delivery publish ≡ Offer wanted → name_of publish.topic ≡ Ok publish.topic
 named_for AtMostOnce wanted publish is = grind arith
 named_for (AtLeastOnce identifier) wanted publish is =
-    named_if publish.retain (is_some publish.properties.topic_alias) publish.topic (named_under (closing_code publish) identifier wanted publish is)
+    named_if publish.retain (is_some publish.properties.topic_alias) publish.topic (none_closes (closing_code publish) identifier wanted is)
 named_for (ExactlyOnce identifier) wanted publish is = grind arith
 
 pub offered_is_named : (wanted : ℕ) (publish : Publish) → publish_answer publish ≡ Offer wanted → name_of publish.topic ≡ Ok publish.topic

@@ -14,12 +14,12 @@ use Rattle.conn_supply.specs.declared.supply.NoMemory.{NoMemory}
 use Rattle.conn_supply.specs.SupplyCalls.{SupplyCall}
 use Rattle.conn_supply.specs.SupplyCalls.SupplyCall.{MayTake, Take, TakeBack, TakePlace, Settle}
 
--- what waits is sent again, the oldest first, with DUP 1 and under its own identifier, until the quota is used up or nothing waits (4.4)
-abbrev pub SendsAgain : Contents Held → List Packet → Contents Held → Type 0
-SendsAgain old [] new = IsNextResend old None × (new ≡ old)
-SendsAgain old (packet ∷ packets) new =
-    (entry : ℕ × Held) × IsNextResend old (Some entry) × (packet ≡ job true entry.1.message entry.1.subscription entry.0)
-    × SendsAgain (after_resend old (Some entry)) packets new
+-- what waits is sent again at this moment, the oldest first, with DUP 1 and under its own identifier, until the quota is used up or nothing waits (4.4)
+abbrev pub SendsAgain : ℕ → Contents Held → List Packet → Contents Held → Type 0
+SendsAgain now old [] new = IsNextResend old None × (new ≡ old)
+SendsAgain now old (packet ∷ packets) new =
+    (entry : ℕ × Held) × IsNextResend old (Some entry) × (packet ≡ job now true entry.1.message entry.1.subscription entry.0)
+    × SendsAgain now (after_resend old (Some entry)) packets new
 
 -- these are sent again, the oldest first, while the quota lets it: a beginning of all that would be
 abbrev pub SendsSomeAgain : Contents Held → List (ℕ × Held) → Contents Held → Type 0
@@ -112,7 +112,7 @@ module _ {S P : Type 0} (call : S → SupplyCall P → S → Type 0) (terms : Ha
     pub found : LooksFor old place (Some envelope) place' new
     pub free : IsLeastFree (identifiers (held_of window)) identifier
     pub put : window' ≡ after_put window identifier (under terms.subscription envelope)
-    pub sent : packet ≡ job false envelope.message terms.subscription identifier
+    pub sent : packet ≡ job terms.at false envelope.message terms.subscription identifier
 
   -- messages go out while there is room, until none is found
   abbrev pub SendsFresh : S → P → Contents Held → List Packet → P → Contents Held → S → Type 0
@@ -135,7 +135,7 @@ module _ {S P : Type 0} (call : S → SupplyCall P → S → Type 0) (terms : Ha
     pub fresh : List Packet
     pub both : packets ≡ again ++ fresh
     pub between : Contents Held
-    pub sent_again : SendsAgain window again between
+    pub sent_again : SendsAgain terms.at window again between
     pub sent_fresh : HandsFresh old membership between fresh membership' window' new
 
   -- an allocation failed where a message was looked for, and none was found
@@ -171,5 +171,5 @@ module _ {S P : Type 0} (call : S → SupplyCall P → S → Type 0) (terms : Ha
   HandsSome old membership window membership' window' new =
       ((again : List (ℕ × Held)) × SendsSomeAgain window again window' × (membership' ≡ membership) × (new ≡ old))
       ⊎ ((place : P) × (place' : P) × (between : Contents Held) × (taken : List Held)
-      × (membership ≡ Member place) × (membership' ≡ Member place') × ((again : List Packet) × SendsAgain window again between)
+      × (membership ≡ Member place) × (membership' ≡ Member place') × ((again : List Packet) × SendsAgain terms.at window again between)
       × TakesSome old place between taken place' window' new)

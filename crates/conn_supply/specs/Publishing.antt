@@ -42,27 +42,26 @@ module _ {S P : Type 0} (call : S → SupplyCall P → S → Type 0) where
   abbrev pub OffersSome : S → ℕ → Message → List ℕ → S → Type 0
   OffersSome old connection message slots new = (new ≡ old) ⊎ OffersFirst old connection message slots new
 
-  -- the packet's own message is offered to each group whose filter matches its topic, and the PUBACK says what became of it (3.4.2.1)
-  pub record IsOffered (old : S) (connection : ℕ) (publish : Publish) (identifier : ℕ) (reply : Reply) (new : S) : Type 0 where
+  -- the packet's own message, which came at this moment, is offered to each group whose filter matches its topic, and the PUBACK says what became of it (3.4.2.1)
+  pub record IsOffered (old : S) (connection now : ℕ) (publish : Publish) (identifier : ℕ) (reply : Reply) (new : S) : Type 0 where
     pub slots : List ℕ
     pub mid : S
     pub taken : ℕ
     pub matched : call old (Match publish.topic slots) mid
-    pub offered : Offers mid connection (message_of publish) slots taken new
+    pub offered : Offers mid connection (message_of now publish) slots taken new
     pub replied : reply ≡ acknowledging identifier (puback_code (length slots) taken)
 
   -- what becomes of a PUBLISH
-  abbrev pub AnswersPublish : S → ℕ → Publish → PublishAnswer → Reply → S → Type 0
-  AnswersPublish old connection publish (answers.Close code) reply new = (reply ≡ closing_with code) × (new ≡ old)
-  AnswersPublish old connection publish (answers.Refuse identifier code) reply new = (reply ≡ acknowledging identifier code) × (new ≡ old)
-  AnswersPublish old connection publish (answers.Offer identifier) reply new = IsOffered old connection publish identifier reply new
+  abbrev pub AnswersPublish : S → ℕ → ℕ → Publish → PublishAnswer → Reply → S → Type 0
+  AnswersPublish old connection now publish (answers.Close code) reply new = (reply ≡ closing_with code) × (new ≡ old)
+  AnswersPublish old connection now publish (answers.Offer identifier) reply new = IsOffered old connection now publish identifier reply new
 
-  abbrev pub Publishes : S → ℕ → Publish → Reply → S → Type 0
-  Publishes old connection publish reply new = AnswersPublish old connection publish (publish_answer publish) reply new
+  abbrev pub Publishes : S → ℕ → ℕ → Publish → Reply → S → Type 0
+  Publishes old connection now publish reply new = AnswersPublish old connection now publish (publish_answer publish) reply new
 
   -- what was done where an allocation failed: the message was offered to none of the groups that match, or to each of them up to one that had no memory for it
-  pub record IsCutShort (old : S) (connection : ℕ) (publish : Publish) (new : S) : Type 0 where
+  pub record IsCutShort (old : S) (connection now : ℕ) (publish : Publish) (new : S) : Type 0 where
     pub slots : List ℕ
     pub mid : S
     pub matched : call old (Match publish.topic slots) mid
-    pub offered : OffersSome mid connection (message_of publish) slots new
+    pub offered : OffersSome mid connection (message_of now publish) slots new

@@ -23,7 +23,8 @@ const MOST_DISCARDS: u32 = 131_072;
 
 /// Hands out to a session what is due: what waits is sent again; then a member is handed messages while there is room, under the
 /// session's Subscription Identifier (section 3.3.2.3.8), and who leaves is no member once it holds nothing. The packets go after those
-/// that are there. A fresh message whose PUBLISH is longer than the client takes is discarded as soon as it was handed out (section 3.1.2.11.4): it is settled so in its group.
+/// that are there. A fresh message that has expired (section 3.3.2.3.3), or whose PUBLISH is longer than the client takes (section 3.1.2.11.4), is discarded as soon as it
+/// was handed out: it is settled so in its group. What is sent again goes out also where it has expired since.
 ///
 /// A visit of the supply is going on. What the session holds is out at its place, then and from then on.
 ///
@@ -47,7 +48,7 @@ pub fn hand_out<P: HoldingPlace, S: Supply<P>>(
     ensures out { AreOut P.has_out membership.new (messages window.new) }
     ensures visiting { S.visiting supply.new ≡ S.visiting supply.old }
 {
-    if let Err(NoMemory) = send_again(window, packets) {
+    if let Err(NoMemory) = send_again(window, terms.at, packets) {
         return Err(NoMemory);
     }
     match membership {
@@ -64,16 +65,20 @@ pub fn hand_out<P: HoldingPlace, S: Supply<P>>(
 }
 
 /// Sends again what waits, while the quota lets it.
-fn send_again(window: &mut Window<Envelope>, packets: &mut Vec<Packet>) -> Result<(), NoMemory>
-    ensures sent { OnOk result ((sent : List Packet) × (packets.new.items ≡ packets.old.items ++ sent) × SendsAgain window.old sent window.new) }
+fn send_again(
+    window: &mut Window<Envelope>,
+    now: u64,
+    packets: &mut Vec<Packet>,
+) -> Result<(), NoMemory>
+    ensures sent { OnOk result ((sent : List Packet) × (packets.new.items ≡ packets.old.items ++ sent) × SendsAgain now window.old sent window.new) }
     ensures begun { OnErr result ((again : List (ℕ × Held)) × SendsSomeAgain window.old again window.new) }
     ensures kept { KeepsHeld window.old window.new }
 {
     packets.reserve(1)?;
-    match next_again(window) {
+    match next_again(window, now) {
         Ok(Some(packet)) => {
             packets.push_reserved(packet);
-            send_again(window, packets)
+            send_again(window, now, packets)
         }
         Ok(None) => Ok(()),
         Err(NoMemory) => Err(NoMemory),
@@ -81,11 +86,11 @@ fn send_again(window: &mut Window<Envelope>, packets: &mut Vec<Packet>) -> Resul
 }
 
 /// Sends the oldest message that waits again, where there is one and the quota lets it, and gives its packet.
-fn next_again(window: &mut Window<Envelope>) -> Result<Option<Packet>, NoMemory>
+fn next_again(window: &mut Window<Envelope>, now: u64) -> Result<Option<Packet>, NoMemory>
     ensures sent { IfOk result (λ sent. MatchOption sent
         (IsNextResend window.old None × (window.new ≡ window.old))
         (λ packet. (entry : ℕ × Held) × IsNextResend window.old (Some entry) × (window.new ≡ after_resend window.old (Some entry))
-        × (packet ≡ job true entry.1.message entry.1.subscription entry.0))) }
+        × (packet ≡ job now true entry.1.message entry.1.subscription entry.0))) }
     ensures begun { OnErr result ((again : List (ℕ × Held)) × SendsSomeAgain window.old again window.new) }
     ensures kept { KeepsHeld window.old window.new }
 {
@@ -94,6 +99,7 @@ fn next_again(window: &mut Window<Envelope>) -> Result<Option<Packet>, NoMemory>
         return Ok(None);
     };
     match job(
+        now,
         true,
         envelope.message(),
         envelope.subscription(),
@@ -174,7 +180,7 @@ fn next_fresh<P: HoldingPlace, S: Supply<P>>(
         };
         match is_discarded(envelope.message(), terms) {
             Ok(true) => supply.settle(place, envelope, Fate::Discarded),
-            Ok(false) => match put(window, envelope, terms.subscription) {
+            Ok(false) => match put(window, envelope, terms) {
                 Ok(packet) => return Ok(Some(packet)),
                 Err(NoMemory) => return Err(NoMemory),
             },
@@ -187,23 +193,23 @@ fn next_fresh<P: HoldingPlace, S: Supply<P>>(
     Ok(None)
 }
 
-/// Puts a message into the window, which has room, and gives the packet in which it goes out under that Subscription Identifier.
+/// Puts a message into the window, which has room, and gives the packet in which it goes out under these terms.
 fn put(
     window: &mut Window<Envelope>,
     envelope: Envelope,
-    subscription: Option<SubscriptionIdentifier>,
+    terms: &HandOutTerms,
 ) -> Result<Packet, NoMemory>
     requires { HasRoom window.old }
     ensures put { (identifier : ℕ) × IsLeastFree (identifiers (held_of window.old)) identifier
-        × (window.new ≡ after_put window.old identifier (under subscription envelope))
-        × IfOk result (λ packet. packet ≡ job false envelope.message subscription identifier) }
+        × (window.new ≡ after_put window.old identifier (under terms.now.subscription envelope))
+        × IfOk result (λ packet. packet ≡ job terms.now.at false envelope.message terms.now.subscription identifier) }
     ensures progress { HoldsMore window.old window.new }
     ensures sound { window.new.retired ≡ window.old.retired }
-    ensures held { messages window.new ≡ messages window.old ++ under subscription envelope ∷ [] }
+    ensures held { messages window.new ≡ messages window.old ++ under terms.now.subscription envelope ∷ [] }
 {
     let shared = envelope.message().share();
-    let identifier = hold(window, envelope, subscription);
-    Ok(job(false, &*shared?, subscription, identifier)?)
+    let identifier = hold(window, envelope, terms.subscription);
+    Ok(job(terms.at, false, &*shared?, terms.subscription, identifier)?)
 }
 
 /// Puts a message into the window, which has room, under that Subscription Identifier, and gives its Packet Identifier.

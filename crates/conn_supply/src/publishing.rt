@@ -15,7 +15,8 @@ use mqtt_packet::{PacketIdentifier, Publish, Text};
 use mqtt_topic::{SlotIter, Slots, TopicName};
 use std::alloc::Global;
 
-/// Answers a PUBLISH of this connection: it is offered to each group that matches. A visit of the supply is going on.
+/// Answers a PUBLISH of this connection that came at this moment, in milliseconds: it is offered to each group that matches. A visit of the supply is
+/// going on.
 ///
 /// # Errors
 ///
@@ -24,11 +25,12 @@ pub fn publish<P: HoldingPlace, S: Supply<P>>(
     supply: &mut S,
     alloc: Global,
     connection: u16,
+    now: u64,
     publish: Publish,
 ) -> Result<Reply, NoMemory>
     requires visiting { S.visiting supply.old ≡ true }
-    ensures replied { IfOk result (λ reply. Publishes S.call supply.old connection publish reply supply.new) }
-    ensures cut_short { OnErr result (IsCutShort S.call supply.old connection publish supply.new) }
+    ensures replied { IfOk result (λ reply. Publishes S.call supply.old connection now publish reply supply.new) }
+    ensures cut_short { OnErr result (IsCutShort S.call supply.old connection now publish supply.new) }
     ensures visiting { S.visiting supply.new ≡ S.visiting supply.old }
 {
     match answer_to_publish(&publish) {
@@ -36,34 +38,31 @@ pub fn publish<P: HoldingPlace, S: Supply<P>>(
             drop(publish);
             Ok(Reply::closing_with(alloc, code))
         }
-        PublishAnswer::Refuse(identifier, code) => {
-            drop(publish);
-            Ok(Reply::acknowledging(alloc, identifier, code))
-        }
         PublishAnswer::Offer(identifier) => {
-            offer(supply, alloc, connection, identifier, publish)
+            offer(supply, alloc, connection, now, identifier, publish)
         }
     }
 }
 
 /// Offers the message of a PUBLISH to the groups that match, and answers by a PUBACK.
-#[tactic(auto, using(crate::proofs::Topics::offered_is_named, crate::proofs::Offered::offered_lasts, crate::proofs::Offered::offered_has_no_alias))]
+#[tactic(auto, using(crate::proofs::Topics::offered_is_named, crate::proofs::Offered::offered_has_no_alias))]
 fn offer<P: HoldingPlace, S: Supply<P>>(
     supply: &mut S,
     alloc: Global,
     connection: u16,
+    now: u64,
     identifier: PacketIdentifier,
     mut publish: Publish,
 ) -> Result<Reply, NoMemory>
     requires offered { publish_answer publish ≡ answers.Offer identifier }
     requires visiting { S.visiting supply.old ≡ true }
-    ensures replied { IfOk result (λ reply. IsOffered S.call supply.old connection publish identifier reply supply.new) }
-    ensures cut_short { OnErr result (IsCutShort S.call supply.old connection publish supply.new) }
+    ensures replied { IfOk result (λ reply. IsOffered S.call supply.old connection now publish identifier reply supply.new) }
+    ensures cut_short { OnErr result (IsCutShort S.call supply.old connection now publish supply.new) }
     ensures visiting { S.visiting supply.new ≡ S.visiting supply.old }
 {
     let (slots, topic) = matching(supply, publish.topic);
     publish.topic = topic;
-    let taken = offer_to_all(supply, alloc, connection, &slots, message_of(publish))?;
+    let taken = offer_to_all(supply, alloc, connection, &slots, message_of(now, publish))?;
     let code = puback_code(slots.len(), taken);
     Ok(Reply::acknowledging(alloc, identifier, code))
 }

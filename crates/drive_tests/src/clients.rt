@@ -251,14 +251,20 @@ client_of_small_packets
 > 320900036a6f6200010041
 > $share/g/job accepted 2 acknowledged 0 refused 0 held 0 queued 0 returned 1 discarded 1
 
-message_expiry_refused
+message_expiry_interval: whole, as all happens at one moment; with 0 a message goes to nobody
 100F00044D5154540502003C0000027731
 > 200c000009240125002700010000
 8212000100000C2473686172652F672F6A6F6201
 > 900400010001
 320E00036A6F62000705020000000A41
-> 4003000783
-> $share/g/job accepted 0 acknowledged 0 refused 0 held 0 queued 0 returned 0 discarded 0
+> 40020007
+> 320e00036a6f62000105020000000a41
+320E00036A6F62000805020000000042
+> 40020008
+320900036A6F6200090043
+> 40020009
+> 320900036a6f6200020043
+> $share/g/job accepted 3 acknowledged 0 refused 0 held 0 queued 0 returned 2 discarded 1
 
 no_connect_first
 8212000100000C2473686172652F672F6A6F6201

@@ -5,7 +5,7 @@ use Rattle.group_jobs.specs.Stamps.{Held}
 use Rattle.local_server.specs.ConnSteps.{ConnStep}
 use Rattle.local_server.specs.Messages.{Accepted, IsBrought, AllAccept, sent_in, all_sent}
 
-pub accept_on : (conn_steps : List ConnStep) (conn_step : ConnStep) (accepted more : List Accepted) → AllAccept conn_steps accepted → IsBrought conn_step.connection conn_step.input more
+pub accept_on : (conn_steps : List ConnStep) (conn_step : ConnStep) (accepted more : List Accepted) → AllAccept conn_steps accepted → IsBrought conn_step.connection conn_step.at conn_step.input more
     → AllAccept (conn_steps ++ conn_step ∷ []) (accepted ++ more)
 accept_on [] conn_step accepted more none brought = (more, [], brought, refl, ap (λ (l : List Accepted). l ++ more) none ∙ sym (append-nil more))
 accept_on (first ∷ others) conn_step accepted more all brought = (

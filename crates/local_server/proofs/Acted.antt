@@ -197,13 +197,13 @@ kicked number answer old new does = one (WasKicked number answer) old new (λ st
 
 unless_kicked : (was_kicked : Bool) (ledger : Ledger) (old new : Broker) (number : ℕ) (connected : ConnectedClient GroupPlace) (now : ℕ) (input : Input) (Does : ConnPhase GroupPlace → Reply → Broker → Type 0)
     (phase : ConnPhase GroupPlace) (reply : Reply) → AnswersUnlessKicked Calls slot_of was_kicked old connected now Does phase reply new → HoldsClient ledger old connected
-    → (Does phase reply new → Done ledger old number (Some connected) input (connected_of phase) new) → Done ledger old number (Some connected) input (connected_of phase) new
+    → (Does phase reply new → Done ledger old number now (Some connected) input (connected_of phase) new) → Done ledger old number now (Some connected) input (connected_of phase) new
 unless_kicked true ledger old new number connected now input Does phase reply does was then =
     let quiet = parts ledger old new connected now phase does.1 was in
     let ended : connected_of phase ≡ None = ap connected_of does.1.1 in
     record {
       accepted = [];
-      brought = none_brought number input;
+      brought = none_brought number now input;
       log' = ledger.log;
       grows = sym (append-nil ledger.log);
       holds = quiet.holds;
@@ -213,9 +213,9 @@ unless_kicked true ledger old new number connected now input Does phase reply do
     }
 unless_kicked false ledger old new number connected now input Does phase reply does was then = then does
 
-done_then : (ledger : Ledger) (old mid new : Broker) (number : ℕ) (connected : ConnectedClient GroupPlace) (input : Input) (after : Option (ConnectedClient GroupPlace)) → AddsIn old.groups [] mid.groups
-    → Done ledger mid number (Some connected) input after new → Done ledger old number (Some connected) input after new
-done_then ledger old mid new number connected input after adds done =
+done_then : (ledger : Ledger) (old mid new : Broker) (number now : ℕ) (connected : ConnectedClient GroupPlace) (input : Input) (after : Option (ConnectedClient GroupPlace)) → AddsIn old.groups [] mid.groups
+    → Done ledger mid number now (Some connected) input after new → Done ledger old number now (Some connected) input after new
+done_then ledger old mid new number now connected input after adds done =
     record {
       accepted = done.accepted;
       brought = done.brought;
@@ -229,50 +229,50 @@ done_then ledger old mid new number connected input after adds done =
 
 reacted : (phase : ConnPhase GroupPlace) (input : Input) (ledger : Ledger) (number : ℕ) (old new : Broker) (now : ℕ) (phase' : ConnPhase GroupPlace) (reply : Reply)
     → Reacts Calls slot_of old number phase now input phase' reply new → HoldsAs (with_hand ledger number None) old (connected_of phase)
-    → Done (with_hand ledger number None) old number (connected_of phase) input (connected_of phase') new
+    → Done (with_hand ledger number None) old number now (connected_of phase) input (connected_of phase') new
 reacted (Unconnected opened) (inputs.Packet packet) ledger number old new now phase' reply does was =
-    quietly _ old new number None (connected_of phase') (inputs.Packet packet) tt (first_answered (first_answer packet) _ old new number opened.max_inflight now packet phase' reply does was)
+    quietly _ old new number now None (connected_of phase') (inputs.Packet packet) tt (first_answered (first_answer packet) _ old new number opened.max_inflight now packet phase' reply does was)
 reacted (Unconnected opened) (inputs.Fault fault) ledger number old new now phase' reply does was =
-    quietly _ old new number None (connected_of phase') (inputs.Fault fault) tt (stays_over _ old new phase' (refused_if (fault_refusal fault) phase' reply does.0) does.1 was)
+    quietly _ old new number now None (connected_of phase') (inputs.Fault fault) tt (stays_over _ old new phase' (refused_if (fault_refusal fault) phase' reply does.0) does.1 was)
 reacted (Unconnected opened) inputs.Tick ledger number old new now phase' reply does was =
-    quietly _ old new number None (connected_of phase') inputs.Tick tt (waits_for _ _ old new opened phase' reply does.1 (swept 256 _ old new now does.0 was))
+    quietly _ old new number now None (connected_of phase') inputs.Tick tt (waits_for _ _ old new opened phase' reply does.1 (swept 256 _ old new now does.0 was))
 reacted (Unconnected opened) inputs.EndOfInput ledger number old new now phase' reply does was =
-    quietly _ old new number None (connected_of phase') inputs.EndOfInput tt (stays_over _ old new phase' does.0.over does.1 was)
+    quietly _ old new number now None (connected_of phase') inputs.EndOfInput tt (stays_over _ old new phase' does.0.over does.1 was)
 reacted (Unconnected opened) inputs.Closing ledger number old new now phase' reply does was =
-    quietly _ old new number None (connected_of phase') inputs.Closing tt (stays_over _ old new phase' does.0.over does.1 was)
+    quietly _ old new number now None (connected_of phase') inputs.Closing tt (stays_over _ old new phase' does.0.over does.1 was)
 reacted (Waiting request ticks) (inputs.Packet packet) ledger number old new now phase' reply does was = absurd does
 reacted (Waiting request ticks) (inputs.Fault fault) ledger number old new now phase' reply does was = absurd does
 reacted (Waiting request ticks) inputs.Tick ledger number old new now phase' reply does was =
     let done = swept 256 (with_hand ledger number None) old does.0 now does.1 was in
-    quietly _ old new number None (connected_of phase') inputs.Tick tt
+    quietly _ old new number now None (connected_of phase') inputs.Tick tt
     (quiet_then (with_hand ledger number None) old does.0 new (connected_of phase') done.adds (tries _ does.0 new number now request ticks phase' reply does.2 done.owns))
 reacted (Waiting request ticks) inputs.EndOfInput ledger number old new now phase' reply does was =
-    quietly _ old new number None (connected_of phase') inputs.EndOfInput tt (over _ old new phase' does.1.over (went _ old new (withdrawn number old new does.0) was))
+    quietly _ old new number now None (connected_of phase') inputs.EndOfInput tt (over _ old new phase' does.1.over (went _ old new (withdrawn number old new does.0) was))
 reacted (Waiting request ticks) inputs.Closing ledger number old new now phase' reply does was =
-    quietly _ old new number None (connected_of phase') inputs.Closing tt (over _ old new phase' does.1.over (went _ old new (withdrawn number old new does.0) was))
+    quietly _ old new number now None (connected_of phase') inputs.Closing tt (over _ old new phase' does.1.over (went _ old new (withdrawn number old new does.0) was))
 reacted (Connected connected) (inputs.Packet packet) ledger number old new now phase' reply does was =
     let goes = kicked number does.0 old does.1 does.2 in
     let held = calm (with_hand ledger number None) old does.1 connected.session.membership (held_of connected.session.window) goes was in
-    done_then _ old does.1 new number connected (inputs.Packet packet) (connected_of phase') goes.adds
+    done_then _ old does.1 new number now connected (inputs.Packet packet) (connected_of phase') goes.adds
     (unless_kicked does.0 (with_hand ledger number None) does.1 new number connected now (inputs.Packet packet) _ phase' reply does.3 held
     (λ (answers : AnswersPacket Calls slot_of does.1 number connected now packet phase' reply new). answered_packet _ does.1 new number connected now packet phase' reply answers held))
 reacted (Connected connected) (inputs.Fault fault) ledger number old new now phase' reply does was =
-    quietly _ old new number (Some connected) (connected_of phase') (inputs.Fault fault) tt (parts _ old new connected now phase' does.1 was)
+    quietly _ old new number now (Some connected) (connected_of phase') (inputs.Fault fault) tt (parts _ old new connected now phase' does.1 was)
 reacted (Connected connected) inputs.Tick ledger number old new now phase' reply does was =
     let goes = kicked number does.0 old does.1 does.2 in
     let held = calm (with_hand ledger number None) old does.1 connected.session.membership (held_of connected.session.window) goes was in
-    done_then _ old does.1 new number connected inputs.Tick (connected_of phase') goes.adds
+    done_then _ old does.1 new number now connected inputs.Tick (connected_of phase') goes.adds
     (unless_kicked does.0 (with_hand ledger number None) does.1 new number connected now inputs.Tick _ phase' reply does.3 held
     (λ (answers : AnswersTick Calls slot_of does.1 connected now phase' reply new).
     let sweep = swept_beside ledger number connected 256 does.1 answers.0 now answers.1 held in
-    quietly _ does.1 new number (Some connected) (connected_of phase') inputs.Tick tt
+    quietly _ does.1 new number now (Some connected) (connected_of phase') inputs.Tick tt
     (quiet_then _ does.1 answers.0 new (connected_of phase') sweep.1 (heard _ _ answers.0 new connected now phase' reply answers.2 sweep.0))))
 reacted (Connected connected) inputs.EndOfInput ledger number old new now phase' reply does was =
-    quietly _ old new number (Some connected) (connected_of phase') inputs.EndOfInput tt (parts _ old new connected now phase' does.1 was)
+    quietly _ old new number now (Some connected) (connected_of phase') inputs.EndOfInput tt (parts _ old new connected now phase' does.1 was)
 reacted (Connected connected) inputs.Closing ledger number old new now phase' reply does was =
-    quietly _ old new number (Some connected) (connected_of phase') inputs.Closing tt (over _ old new phase' does.2 (parked_as_is _ old new (down connected.session) does.1 was))
+    quietly _ old new number now (Some connected) (connected_of phase') inputs.Closing tt (over _ old new phase' does.2 (parked_as_is _ old new (down connected.session) does.1 was))
 reacted Ended input ledger number old new now phase' reply does was =
-    quietly _ old new number None (connected_of phase') input tt (stays_over _ old new phase' does.0.over does.1 was)
+    quietly _ old new number now None (connected_of phase') input tt (stays_over _ old new phase' does.0.over does.1 was)
 
 -- what is handed out after the reply, and what is discarded of it
 record HandedOut (discarded : List Held) (ledger : Ledger) (mid : Broker) (after : Option (ConnectedClient GroupPlace)) (Says : Type 0) (new : Broker) : Type 0 where
@@ -283,29 +283,29 @@ record HandedOut (discarded : List Held) (ledger : Ledger) (mid : Broker) (after
 none_handed : (ledger : Ledger) (mid : Broker) (after : Option (ConnectedClient GroupPlace)) (Says : Type 0) (new : Broker) → Quiet ledger mid after new → IfUp after Says → HandedOut [] ledger mid after Says new
 none_handed ledger mid after Says new quiet says = record { holds = quiet.holds; adds = quiet.adds; says = says }
 
-handed : (between : ConnPhase GroupPlace) (ledger : Ledger) (mid new : Broker) (sent : List Packet) (phase' : ConnPhase GroupPlace) (Says : Type 0)
-    (does : Hands Calls slot_of mid between sent phase' new)
-    → HoldsAs ledger mid (connected_of between) → IfUp (connected_of between) Says → HandedOut (discarded_by Calls slot_of between mid new sent phase' does) ledger mid (connected_of phase') Says new
-handed (Unconnected opened) ledger mid new sent phase' Says does was says =
+handed : (between : ConnPhase GroupPlace) (ledger : Ledger) (now : ℕ) (mid new : Broker) (sent : List Packet) (phase' : ConnPhase GroupPlace) (Says : Type 0)
+    (does : Hands Calls slot_of mid between now sent phase' new)
+    → HoldsAs ledger mid (connected_of between) → IfUp (connected_of between) Says → HandedOut (discarded_by Calls slot_of between now mid new sent phase' does) ledger mid (connected_of phase') Says new
+handed (Unconnected opened) ledger now mid new sent phase' Says does was says =
     let went_on = went ledger mid new (still mid new does.2) was in
     none_handed ledger mid (connected_of phase') Says new (at_last ledger mid new phase' (Unconnected opened) does.1 (record { holds = went_on.owns; adds = went_on.adds }))
     (subst (λ (s : ConnPhase GroupPlace). IfUp (connected_of s) Says) (sym does.1) tt)
-handed (Waiting request ticks) ledger mid new sent phase' Says does was says =
+handed (Waiting request ticks) ledger now mid new sent phase' Says does was says =
     let went_on = went ledger mid new (still mid new does.2) was in
     none_handed ledger mid (connected_of phase') Says new (at_last ledger mid new phase' (Waiting request ticks) does.1 (record { holds = went_on.owns; adds = went_on.adds }))
     (subst (λ (s : ConnPhase GroupPlace). IfUp (connected_of s) Says) (sym does.1) tt)
-handed (Connected connected) ledger mid new sent phase' Says does was says =
+handed (Connected connected) ledger now mid new sent phase' Says does was says =
     let hands = does.2 in
-    let discarded = discarded_in Calls (hand_out_terms connected) connected.session.membership mid new hands.between hands.fresh does.0 does.1 hands.sent_fresh in
-    let out = hands_out (hand_out_terms connected) ledger mid new connected.session.membership connected.session.window sent does.0 does.1 hands was in
+    let discarded = discarded_in Calls (hand_out_terms connected now) connected.session.membership mid new hands.between hands.fresh does.0 does.1 hands.sent_fresh in
+    let out = hands_out (hand_out_terms connected now) ledger mid new connected.session.membership connected.session.window sent does.0 does.1 hands was in
     subst (λ (s : ConnPhase GroupPlace). HandedOut discarded ledger mid (connected_of s) Says new) (sym does.3) (record { holds = out.0; adds = out.1.adds; says = says })
-handed Ended ledger mid new sent phase' Says does was says =
+handed Ended ledger now mid new sent phase' Says does was says =
     none_handed ledger mid (connected_of phase') Says new (stays_over ledger mid new phase' does.1 does.2 was) (subst (λ (s : ConnPhase GroupPlace). IfUp (connected_of s) Says) (sym does.1) tt)
 
 -- a step: what its answer settles, and what is discarded after it
-pub record Acts (discarded : List Held) (ledger : Ledger) (old mid : Broker) (number : ℕ) (before : Option (ConnectedClient GroupPlace)) (input : Input) (after : Option (ConnectedClient GroupPlace)) (new : Broker) : Type 0 where
+pub record Acts (discarded : List Held) (ledger : Ledger) (old mid : Broker) (number now : ℕ) (before : Option (ConnectedClient GroupPlace)) (input : Input) (after : Option (ConnectedClient GroupPlace)) (new : Broker) : Type 0 where
   pub accepted : List Accepted
-  pub brought : IsBrought number input accepted
+  pub brought : IsBrought number now input accepted
   pub owns : Owns (with_log (with_hand ledger number after) (ledger.log ++ accepted)) new
   pub settled : List Settlement
   pub adds : AddsIn old.groups settled mid.groups
@@ -314,10 +314,10 @@ pub record Acts (discarded : List Held) (ledger : Ledger) (old mid : Broker) (nu
 
 pub acts : (ledger : Ledger) (old new : Broker) (number now : ℕ) (phase phase' : ConnPhase GroupPlace) (input : Input) (packets : List Packet) (next : Then)
     (steps : Steps Calls slot_of old number phase now input packets next phase' new) → Owns (with_hand ledger number (connected_of phase)) old
-    → Acts (discarded_by Calls slot_of steps.between steps.mid new steps.sent phase' steps.hands) ledger old steps.mid number (connected_of phase) input (connected_of phase') new
+    → Acts (discarded_by Calls slot_of steps.between now steps.mid new steps.sent phase' steps.hands) ledger old steps.mid number now (connected_of phase) input (connected_of phase') new
 acts ledger old new number now phase phase' input packets next steps was =
     let done = reacted phase input ledger number old steps.mid now steps.between steps.reply steps.reacts (enter_as ledger number (connected_of phase) old was) in
-    let end = handed steps.between (with_log (with_hand ledger number None) done.log') steps.mid new steps.sent phase'
+    let end = handed steps.between (with_log (with_hand ledger number None) done.log') now steps.mid new steps.sent phase'
     (Tells (connected_of phase) input done.settled) steps.hands done.holds done.tells in
     record {
       accepted = done.accepted;

@@ -81,9 +81,9 @@ pub record Quiet (ledger : Ledger) (old : Broker) (after : Option (ConnectedClie
   pub holds : HoldsAs ledger new after
   pub adds : AddsIn old.groups [] new.groups
 
-pub record Done (ledger : Ledger) (old : Broker) (number : ℕ) (before : Option (ConnectedClient GroupPlace)) (input : Input) (after : Option (ConnectedClient GroupPlace)) (new : Broker) : Type 0 where
+pub record Done (ledger : Ledger) (old : Broker) (number now : ℕ) (before : Option (ConnectedClient GroupPlace)) (input : Input) (after : Option (ConnectedClient GroupPlace)) (new : Broker) : Type 0 where
   pub accepted : List Accepted
-  pub brought : IsBrought number input accepted
+  pub brought : IsBrought number now input accepted
   pub log' : Log
   pub grows : log' ≡ ledger.log ++ accepted
   pub holds : HoldsAs (with_log ledger log') new after
@@ -91,15 +91,15 @@ pub record Done (ledger : Ledger) (old : Broker) (number : ℕ) (before : Option
   pub adds : AddsIn old.groups settled new.groups
   pub tells : IfUp after (Tells before input settled)
 
-pub none_brought : (number : ℕ) (input : Input) → IsBrought number input []
-none_brought number input = record { each = tt; ordered = λ i j d less within. absurd (omega arith) }
+pub none_brought : (number now : ℕ) (input : Input) → IsBrought number now input []
+none_brought number now input = record { each = tt; ordered = λ i j d less within. absurd (omega arith) }
 
-pub quietly : (ledger : Ledger) (old new : Broker) (number : ℕ) (before after : Option (ConnectedClient GroupPlace)) (input : Input) → Tells before input [] → Quiet ledger old after new
-    → Done ledger old number before input after new
-quietly ledger old new number before after input told quiet =
+pub quietly : (ledger : Ledger) (old new : Broker) (number now : ℕ) (before after : Option (ConnectedClient GroupPlace)) (input : Input) → Tells before input [] → Quiet ledger old after new
+    → Done ledger old number now before input after new
+quietly ledger old new number now before after input told quiet =
     record {
       accepted = [];
-      brought = none_brought number input;
+      brought = none_brought number now input;
       log' = ledger.log;
       grows = sym (append-nil ledger.log);
       holds = quiet.holds;
@@ -194,9 +194,9 @@ concluded Close ledger old new connected now phase does was = parts ledger old n
 concluded Kicked ledger old new connected now phase does was = parts ledger old new connected now phase does was
 
 -- the answer to a packet
-record Answered (ledger : Ledger) (old : Broker) (number : ℕ) (connected : ConnectedClient GroupPlace) (packet : Packet) (connected' : ConnectedClient GroupPlace) (new : Broker) : Type 0 where
+record Answered (ledger : Ledger) (old : Broker) (number now : ℕ) (connected : ConnectedClient GroupPlace) (packet : Packet) (connected' : ConnectedClient GroupPlace) (new : Broker) : Type 0 where
   accepted : List Accepted
-  brought : IsBrought number (inputs.Packet packet) accepted
+  brought : IsBrought number now (inputs.Packet packet) accepted
   log' : Log
   grows : log' ≡ ledger.log ++ accepted
   holds : HoldsClient (with_log ledger log') new connected'
@@ -205,12 +205,12 @@ record Answered (ledger : Ledger) (old : Broker) (number : ℕ) (connected : Con
   tells : Tells (Some connected) (inputs.Packet packet) settled
 
 -- nothing is accepted
-answers_so : (ledger : Ledger) (old new : Broker) (number : ℕ) (connected connected' : ConnectedClient GroupPlace) (packet : Packet) (settled : List Settlement) → HoldsClient ledger new connected'
-    → AddsIn old.groups settled new.groups → Tells (Some connected) (inputs.Packet packet) settled → Answered ledger old number connected packet connected' new
-answers_so ledger old new number connected connected' packet settled holds adds tells =
+answers_so : (ledger : Ledger) (old new : Broker) (number now : ℕ) (connected connected' : ConnectedClient GroupPlace) (packet : Packet) (settled : List Settlement) → HoldsClient ledger new connected'
+    → AddsIn old.groups settled new.groups → Tells (Some connected) (inputs.Packet packet) settled → Answered ledger old number now connected packet connected' new
+answers_so ledger old new number now connected connected' packet settled holds adds tells =
     record {
       accepted = [];
-      brought = none_brought number (inputs.Packet packet);
+      brought = none_brought number now (inputs.Packet packet);
       log' = ledger.log;
       grows = sym (append-nil ledger.log);
       holds = holds;
@@ -219,32 +219,32 @@ answers_so ledger old new number connected connected' packet settled holds adds 
       tells = tells;
     }
 
-calmly : (ledger : Ledger) (old new : Broker) (number : ℕ) (connected connected' : ConnectedClient GroupPlace) (packet : Packet) → Tells (Some connected) (inputs.Packet packet) [] → connected' ≡ connected
-    → Goes [] old new → HoldsClient ledger old connected → Answered ledger old number connected packet connected' new
-calmly ledger old new number connected connected' packet told same goes was =
-    subst (λ (l : ConnectedClient GroupPlace). Answered ledger old number connected packet l new) (sym same)
-    (answers_so ledger old new number connected connected packet [] (calm ledger old new connected.session.membership (held_of connected.session.window) goes was) goes.adds told)
+calmly : (ledger : Ledger) (old new : Broker) (number now : ℕ) (connected connected' : ConnectedClient GroupPlace) (packet : Packet) → Tells (Some connected) (inputs.Packet packet) [] → connected' ≡ connected
+    → Goes [] old new → HoldsClient ledger old connected → Answered ledger old number now connected packet connected' new
+calmly ledger old new number now connected connected' packet told same goes was =
+    subst (λ (l : ConnectedClient GroupPlace). Answered ledger old number now connected packet l new) (sym same)
+    (answers_so ledger old new number now connected connected packet [] (calm ledger old new connected.session.membership (held_of connected.session.window) goes was) goes.adds told)
 
 -- a message is offered to the groups that match
-each_brought : (accepted : List Accepted) (number : ℕ) (publish : Publish)
-    → AllByRecursion (λ (a : Accepted). (a.port ≡ number) × (a.message ≡ message_of publish) × (a.group < 8)) accepted
-    → AllByRecursion (IsBroughtBy number (inputs.Packet (packets.Publish publish))) accepted
-each_brought [] number publish each = tt
-each_brought (accepted ∷ others) number publish each =
-    (record { publish = publish; came = refl; message = each.0.1; port = each.0.0; group = each.0.2 }, each_brought others number publish each.1)
+each_brought : (accepted : List Accepted) (number now : ℕ) (publish : Publish)
+    → AllByRecursion (λ (a : Accepted). (a.port ≡ number) × (a.message ≡ message_of now publish) × (a.group < 8)) accepted
+    → AllByRecursion (IsBroughtBy number now (inputs.Packet (packets.Publish publish))) accepted
+each_brought [] number now publish each = tt
+each_brought (accepted ∷ others) number now publish each =
+    (record { publish = publish; came = refl; message = each.0.1; port = each.0.0; group = each.0.2 }, each_brought others number now publish each.1)
 
-offered : (ledger : Ledger) (old new : Broker) (number : ℕ) (connected : ConnectedClient GroupPlace) (publish : Publish) (identifier : ℕ) (reply : Reply)
-    → IsOffered Calls old number publish identifier reply new → HoldsClient ledger old connected → Answered ledger old number connected (packets.Publish publish) connected new
-offered ledger old new number connected publish identifier reply does was =
+offered : (ledger : Ledger) (old new : Broker) (number now : ℕ) (connected : ConnectedClient GroupPlace) (publish : Publish) (identifier : ℕ) (reply : Reply)
+    → IsOffered Calls old number now publish identifier reply new → HoldsClient ledger old connected → Answered ledger old number now connected (packets.Publish publish) connected new
+offered ledger old new number now connected publish identifier reply does was =
     let entries = held_of connected.session.window in
     let match = one (Match _ does.slots) old does.mid (λ stamp spends. spends) refl tt does.matched (same_rows old does.mid (ap (λ b. b.desk.rows) does.matched.1)) in
     let matched = calm ledger old does.mid connected.session.membership entries match was in
     let ascend : AreAscending 0 does.slots = subst (AreAscending 0) (sym does.matched.0) (places_ascend 0 (routed publish.topic old.routes)) in
-    let offers = all_offered does.slots ledger.log 0 number (message_of publish) does.mid new does.taken matched.others.running ascend does.offered matched.others.know in
-    let runs = offers_run does.slots does.mid new number (message_of publish) does.taken does.offered in
+    let offers = all_offered does.slots ledger.log 0 number (message_of now publish) does.mid new does.taken matched.others.running ascend does.offered matched.others.know in
+    let runs = offers_run does.slots does.mid new number (message_of now publish) does.taken does.offered in
     record {
       accepted = offers.accepted;
-      brought = record { each = each_brought offers.accepted number publish offers.each; ordered = offers.ordered };
+      brought = record { each = each_brought offers.accepted number now publish offers.each; ordered = offers.ordered };
       log' = offers.log';
       grows = offers.grows;
       holds = record {
@@ -256,12 +256,10 @@ offered ledger old new number connected publish identifier reply does was =
       tells = tt;
     }
 
-published : (answer : PublishAnswer) (ledger : Ledger) (old new : Broker) (number : ℕ) (connected : ConnectedClient GroupPlace) (publish : Publish) (reply : Reply)
-    → AnswersPublish Calls old number publish answer reply new → HoldsClient ledger old connected → Answered ledger old number connected (packets.Publish publish) connected new
-published (answers.Close code) ledger old new number connected publish reply does was = calmly ledger old new number connected connected (packets.Publish publish) tt refl (still old new does.1) was
-published (answers.Refuse identifier code) ledger old new number connected publish reply does was =
-    calmly ledger old new number connected connected (packets.Publish publish) tt refl (still old new does.1) was
-published (answers.Offer identifier) ledger old new number connected publish reply does was = offered ledger old new number connected publish identifier reply does was
+published : (answer : PublishAnswer) (ledger : Ledger) (old new : Broker) (number now : ℕ) (connected : ConnectedClient GroupPlace) (publish : Publish) (reply : Reply)
+    → AnswersPublish Calls old number now publish answer reply new → HoldsClient ledger old connected → Answered ledger old number now connected (packets.Publish publish) connected new
+published (answers.Close code) ledger old new number now connected publish reply does was = calmly ledger old new number now connected connected (packets.Publish publish) tt refl (still old new does.1) was
+published (answers.Offer identifier) ledger old new number now connected publish reply does was = offered ledger old new number now connected publish identifier reply does was
 
 -- with another membership, through whose place all is out that was
 moved : (ledger : Ledger) (old new : Broker) (connected : ConnectedClient GroupPlace) (membership : Membership GroupPlace) (goes : Goes [] old new)
@@ -301,39 +299,39 @@ disconnects : (expiry : Option ℕ) (ledger : Ledger) (b : Broker) (connected co
 disconnects None ledger b connected connected' reply does was = subst (HoldsClient ledger b) (sym does.0) was
 disconnects (Some seconds) ledger b connected connected' reply does was = disconnects_if _ ledger b connected seconds connected' reply does was
 
-answered : (packet : Packet) (ledger : Ledger) (old new : Broker) (number : ℕ) (connected connected' : ConnectedClient GroupPlace) (reply : Reply)
-    → Answers Calls slot_of old number connected packet connected' reply new
-    → HoldsClient ledger old connected → Answered ledger old number connected packet connected' new
-answered (packets.Publish publish) ledger old new number connected connected' reply does was =
-    subst (λ (l : ConnectedClient GroupPlace). Answered ledger old number connected (packets.Publish publish) l new) (sym does.1)
-    (published (publish_answer publish) ledger old new number connected publish reply does.0 was)
-answered (packets.Puback puback) ledger old new number connected connected' reply does was =
+answered : (packet : Packet) (ledger : Ledger) (old new : Broker) (number now : ℕ) (connected connected' : ConnectedClient GroupPlace) (reply : Reply)
+    → Answers Calls slot_of old number connected now packet connected' reply new
+    → HoldsClient ledger old connected → Answered ledger old number now connected packet connected' new
+answered (packets.Publish publish) ledger old new number now connected connected' reply does was =
+    subst (λ (l : ConnectedClient GroupPlace). Answered ledger old number now connected (packets.Publish publish) l new) (sym does.1)
+    (published (publish_answer publish) ledger old new number now connected publish reply does.0 was)
+answered (packets.Puback puback) ledger old new number now connected connected' reply does was =
     let acked = acknowledged connected.session.membership ledger old new connected.session.window puback.packet_identifier puback.reason_code does.0.membership does.0.window does.1.settles was in
-    subst (λ (l : ConnectedClient GroupPlace). Answered ledger old number connected (packets.Puback puback) l new) (sym does.2)
-    (answers_so ledger old new number connected _ (packets.Puback puback) acked.settled acked.holds acked.adds acked.exact)
-answered (packets.Subscribe subscribe) ledger old new number connected connected' reply does was =
+    subst (λ (l : ConnectedClient GroupPlace). Answered ledger old number now connected (packets.Puback puback) l new) (sym does.2)
+    (answers_so ledger old new number now connected _ (packets.Puback puback) acked.settled acked.holds acked.adds acked.exact)
+answered (packets.Subscribe subscribe) ledger old new number now connected connected' reply does was =
     let both = subscribed (subscribe_refusal subscribe) ledger old new connected subscribe reply does.0 does.1 does.2 was in
-    subst (λ (l : ConnectedClient GroupPlace). Answered ledger old number connected (packets.Subscribe subscribe) l new) (sym does.3)
-    (answers_so ledger old new number connected _ (packets.Subscribe subscribe) [] both.0 both.1 tt)
-answered (packets.Unsubscribe unsubscribe) ledger old new number connected connected' reply does was =
+    subst (λ (l : ConnectedClient GroupPlace). Answered ledger old number now connected (packets.Subscribe subscribe) l new) (sym does.3)
+    (answers_so ledger old new number now connected _ (packets.Subscribe subscribe) [] both.0 both.1 tt)
+answered (packets.Unsubscribe unsubscribe) ledger old new number now connected connected' reply does was =
     let both = unsubscribed (unsubscribe_refusal unsubscribe) ledger old new connected unsubscribe reply does.0 does.1 was in
-    subst (λ (l : ConnectedClient GroupPlace). Answered ledger old number connected (packets.Unsubscribe unsubscribe) l new) (sym does.2)
-    (answers_so ledger old new number connected _ (packets.Unsubscribe unsubscribe) [] both.0 both.1 tt)
-answered packets.Pingreq ledger old new number connected connected' reply does was = calmly ledger old new number connected connected' packets.Pingreq tt does.0 (still old new does.2) was
-answered (packets.Disconnect disconnect) ledger old new number connected connected' reply does was =
+    subst (λ (l : ConnectedClient GroupPlace). Answered ledger old number now connected (packets.Unsubscribe unsubscribe) l new) (sym does.2)
+    (answers_so ledger old new number now connected _ (packets.Unsubscribe unsubscribe) [] both.0 both.1 tt)
+answered packets.Pingreq ledger old new number now connected connected' reply does was = calmly ledger old new number now connected connected' packets.Pingreq tt does.0 (still old new does.2) was
+answered (packets.Disconnect disconnect) ledger old new number now connected connected' reply does was =
     let goes = still old new does.1 in
-    answers_so ledger old new number connected connected' (packets.Disconnect disconnect) []
+    answers_so ledger old new number now connected connected' (packets.Disconnect disconnect) []
     (disconnects disconnect.properties.session_expiry_interval ledger new connected connected' reply does.0
     (calm ledger old new connected.session.membership (held_of connected.session.window) goes was))
     goes.adds tt
-answered other ledger old new number connected connected' reply does was = calmly ledger old new number connected connected' other tt does.0 (still old new does.2) was
+answered other ledger old new number now connected connected' reply does was = calmly ledger old new number now connected connected' other tt does.0 (still old new does.2) was
 
 -- a packet, and a Tick, of a connection whose client has its session
 pub answered_packet : (ledger : Ledger) (old new : Broker) (number : ℕ) (connected : ConnectedClient GroupPlace) (now : ℕ) (packet : Packet) (phase : ConnPhase GroupPlace) (reply : Reply)
     → AnswersPacket Calls slot_of old number connected now packet phase reply new → HoldsClient ledger old connected
-    → Done ledger old number (Some connected) (inputs.Packet packet) (connected_of phase) new
+    → Done ledger old number now (Some connected) (inputs.Packet packet) (connected_of phase) new
 answered_packet ledger old new number connected now packet phase reply does was =
-    let answer = answered packet ledger old does.1 number (hearing connected now) does.0 reply does.2 was in
+    let answer = answered packet ledger old does.1 number now (hearing connected now) does.0 reply does.2 was in
     let end = concluded reply.next (with_log ledger answer.log') does.1 new does.0 now phase does.3 answer.holds in
     record {
       accepted = answer.accepted;

@@ -122,7 +122,7 @@ ends_none (Some connected) None old new number next marks conn_steps goes stops 
 module _ (old new : Broker) (number now : ℕ) (phase phase' : ConnPhase GroupPlace) (sent : List Packet) (next : Then) where
   -- a PUBACK of a connection with its session
   puback_heard : (puback : Puback) (connected : ConnectedClient GroupPlace) (entries : Entries)
-      (step : Transcribes Calls old number phase (inputs.Packet (packets.Puback puback)) sent next phase' new) → phase ≡ Connected connected → entries ≡ held_of connected.session.window
+      (step : Transcribes Calls old number phase now (inputs.Packet (packets.Puback puback)) sent next phase' new) → phase ≡ Connected connected → entries ≡ held_of connected.session.window
       → AreOutFor old connected.session.membership (held_of connected.session.window) → next ≡ Go
       → acknowledged_of step.marks ≡ confirmed_by entries (inputs.Packet (packets.Puback puback))
   puback_heard puback connected entries step is same out goes =
@@ -143,7 +143,7 @@ module _ (old new : Broker) (number now : ℕ) (phase phase' : ConnPhase GroupPl
       step.settles
 
   -- an input that is no PUBACK acknowledges nothing
-  other_heard : (input : Input) (step : Transcribes Calls old number phase input sent next phase' new) → ((acked : ℕ × ℕ) → ¬ IsAckedBy input acked)
+  other_heard : (input : Input) (step : Transcribes Calls old number phase now input sent next phase' new) → ((acked : ℕ × ℕ) → ¬ IsAckedBy input acked)
       → acknowledged_of step.marks ≡ []
   other_heard input step no_puback =
       ⊎_elim
@@ -154,7 +154,7 @@ module _ (old new : Broker) (number now : ℕ) (phase phase' : ConnPhase GroupPl
   abbrev Steps_by : Input → Type 0
   Steps_by input = Steps Calls slot_of old number phase now input sent next phase' new
 
-  heard : (input : Input) (entries : Entries) (step : Transcribes Calls old number phase input sent next phase' new) → Steps_by input
+  heard : (input : Input) (entries : Entries) (step : Transcribes Calls old number phase now input sent next phase' new) → Steps_by input
       → ((connected : ConnectedClient GroupPlace) → connected_of phase ≡ Some connected → entries ≡ held_of connected.session.window)
       → ((connected : ConnectedClient GroupPlace) → connected_of phase ≡ Some connected → AreOutFor old connected.session.membership (held_of connected.session.window)) → next ≡ Go
       → acknowledged_of step.marks ≡ confirmed_by entries input
@@ -181,7 +181,7 @@ module _ (old new : Broker) (number now : ℕ) (phase phase' : ConnPhase GroupPl
   heard inputs.Closing entries step steps same out goes = other_heard _ step (λ acked is. is)
 
   -- this step acknowledges what came
-  pub conn_step_hears : (input : Input) (conn_steps : List ConnStep) (conn_step : ConnStep) (step : Transcribes Calls old number phase input sent next phase' new) → Steps_by input
+  pub conn_step_hears : (input : Input) (conn_steps : List ConnStep) (conn_step : ConnStep) (step : Transcribes Calls old number phase now input sent next phase' new) → Steps_by input
       → conn_step.input ≡ input → conn_step.next ≡ next → conn_step.marks ≡ step.marks → GoesAs (connected_of phase) (connected_of phase') next
       → ((connected : ConnectedClient GroupPlace) → connected_of phase ≡ Some connected → Leads (transcript_of connected.session.identity.number conn_steps) connected.session.window)
       → ((connected : ConnectedClient GroupPlace) → connected_of phase ≡ Some connected → conn_step.session ≡ connected.session.identity.number)

@@ -343,12 +343,12 @@ hands_fresh terms (Leaving place) ledger old new window packets membership' wind
     subst (λ (w : Contents Held). Handed [] ledger old membership' w new) (sym does.1) (leaves ledger old new place window membership' does.2 was)
 
 -- what is sent again was held
-held_again : (packets : List Packet) (old new : Contents Held) → SendsAgain old packets new → held_of new ≡ held_of old
-held_again [] old new sends = ap held_of sends.1
-held_again (packet ∷ packets) old new sends =
+held_again : (packets : List Packet) (now : ℕ) (old new : Contents Held) → SendsAgain now old packets new → held_of new ≡ held_of old
+held_again [] now old new sends = ap held_of sends.1
+held_again (packet ∷ packets) now old new sends =
     let entry = sends.0 in
     let next = sends.1.1 in
-    held_again packets (after_resend old (Some entry)) new sends.3
+    held_again packets now (after_resend old (Some entry)) new sends.3
     ∙ append_assoc old.owed (entry ∷ []) (drop 1 old.waiting)
     ∙ ap (λ (es : Entries). old.owed ++ es) (ap (λ (es : Entries). entry ∷ drop 1 es) next.1 ∙ sym next.1)
 
@@ -357,4 +357,4 @@ pub hands_out : (terms : HandOutTerms) (ledger : Ledger) (old new : Broker) (mem
     → Handed (all_discarded (discarded_in Calls terms membership old new does.between does.fresh membership' window' does.sent_fresh)) ledger old membership' window' new
 hands_out terms ledger old new membership window packets membership' window' does was =
     hands_fresh terms membership ledger old new does.between does.fresh membership' window' does.sent_fresh
-    (subst (λ (es : Entries). Holds ledger old membership es) (sym (held_again does.again window does.between does.sent_again)) was)
+    (subst (λ (es : Entries). Holds ledger old membership es) (sym (held_again does.again terms.at window does.between does.sent_again)) was)

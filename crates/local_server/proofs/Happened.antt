@@ -10,12 +10,12 @@ use Rattle.conn_supply.specs.declared.supply.NoMemory.{NoMemory}
 use Rattle.conn_supply.specs.SupplyCalls.{SupplyCall}
 use Rattle.conn_engine.specs.declared.input.Input.{Input}
 use Rattle.conn_engine.specs.declared.input.Input.TheVariants as inputs
-use Rattle.conn_laws.specs.Calls.{hand_out_of, handed, Outcome, hand_outs_of, sent_of, messages_of, MakesAll, CallsLead}
+use Rattle.conn_laws.specs.Calls.{hand_out_of, handed, Outcome, hand_outs_of, sent_of, contents_of, MakesAll, CallsLead}
 use Rattle.conn_laws.proofs.HandingOut.{hands_of_both}
 use Rattle.client_table.specs.Clients.{ClientState, StepOutput}
 use Rattle.client_table.specs.Cells.{Receives, TicksFor, EndsFor}
 use Rattle.client_table.specs.Deliveries.{fresh_sent, Delivers}
-use Rattle.client_table.proofs.Calling.{fresh_sent-append, messages_of_both, receives_told, ticks_told, ends_told, receives, ticks_for, ends_for}
+use Rattle.client_table.proofs.Calling.{fresh_sent-append, contents_of_both, receives_told, ticks_told, ends_told, receives, ticks_for, ends_for}
 use Rattle.local_broker.specs.Places.{GroupPlace}
 use Rattle.local_broker.specs.Broker.{Broker, is_open}
 use Rattle.local_broker.specs.Calls.{Calls, Closes}
@@ -38,7 +38,7 @@ use Rattle.local_server.specs.Runs.{IsReachedBy, AllRunLawfully}
 record Told (happenings : List Happening) (said : List StepOutput) : Type 0 where
   outcomes : List (Outcome GroupPlace)
   handed_out : handed_by_all happenings ≡ hand_outs_of outcomes
-  sent : fresh_sent said ≡ messages_of (sent_of outcomes)
+  sent : fresh_sent said ≡ contents_of (sent_of outcomes)
 
 -- what happened to a broker in an event by which this was said; what was said is what was handed out, where no allocation failed
 record Ran (result : Result (Unit {0}) NoMemory) (old : Broker) (said : List StepOutput) (new : Broker) : Type 0 where
@@ -59,7 +59,7 @@ told_behind said more all happenings others is these those =
     record {
       outcomes = these.outcomes ++ those.outcomes;
       handed_out = filter_map-append handed_by happenings others ∙ (λ i. these.handed_out i ++ those.handed_out i) ∙ sym (hands_of_both these.outcomes those.outcomes);
-      sent = ap fresh_sent is ∙ fresh_sent-append said more ∙ (λ i. these.sent i ++ those.sent i) ∙ sym (messages_of_both these.outcomes those.outcomes);
+      sent = ap fresh_sent is ∙ fresh_sent-append said more ∙ (λ i. these.sent i ++ those.sent i) ∙ sym (contents_of_both these.outcomes those.outcomes);
     }
 
 pub first_ok : (first then : Result (Unit {0}) NoMemory) → IsOk (result_and first then) → IsOk first

@@ -40,8 +40,8 @@ moves : (client client' : ClientState GroupPlace) (old new : Broker) (now : ℕ)
 moves client client' old new now said moved =
     let steps = moved.stepped in
     let told = reacts client.conn.phase steps.between old steps.mid client.conn.number (moment_of client now) steps.reply steps.reacts in
-    let none : Hands Calls slot_of steps.mid Ended steps.sent client'.conn.phase new =
-    subst (λ s. Hands Calls slot_of steps.mid s steps.sent client'.conn.phase new) told.0 steps.hands in
+    let none : Hands Calls slot_of steps.mid Ended (moment_of client now) steps.sent client'.conn.phase new =
+    subst (λ s. Hands Calls slot_of steps.mid s (moment_of client now) steps.sent client'.conn.phase new) told.0 steps.hands in
     ap (λ b. b.groups) none.2 ∙ told.1
 
 ends : (result : Result (Unit {0}) NoMemory) (before : Option (ClientState GroupPlace)) (old new : Broker) (now : ℕ) (said : List StepOutput) (after : Option (ClientState GroupPlace))

@@ -11,7 +11,7 @@ pub mod Eager
 pub mod OneRun
 pub mod Going
 pub mod Reading
-pub mod Unfaulted
+pub mod Sound
 pub mod Heard
 pub mod Windows
 pub mod ConnSteps

@@ -34,12 +34,12 @@ IsSpelled inputs.Closing = ⊤
 abbrev pub AllLight : Log → Type 0
 AllLight log = AllByRecursion (λ (a : Accepted). IsLight a.message) log
 
-pub brought_light : (accepted : List Accepted) (number : ℕ) (input : Input) → IsSpelled input → AllByRecursion (IsBroughtBy number input) accepted → AllLight accepted
-brought_light [] number input spelled each = tt
-brought_light (first ∷ others) number input spelled each =
+pub brought_light : (accepted : List Accepted) (number now : ℕ) (input : Input) → IsSpelled input → AllByRecursion (IsBroughtBy number now input) accepted → AllLight accepted
+brought_light [] number now input spelled each = tt
+brought_light (first ∷ others) number now input spelled each =
     let brought = each.0 in
     let read : IsSpelled (inputs.Packet (packets.Publish brought.publish)) = subst IsSpelled brought.came spelled in
-    (subst IsLight (sym brought.message) (light brought.publish read.0 read.1), brought_light others number input spelled each.1)
+    (subst IsLight (sym brought.message) (light brought.publish read.0 now read.1), brought_light others number now input spelled each.1)
 
 -- a message of a port is one of what was accepted
 one_light : (ours : Bool) (first : Message) (messages : List Message) (place : ℕ) (message : Message) → IsLight first
@@ -59,13 +59,15 @@ pub known_light : (log : Log) (envelope : Held) → AllLight log → IsKnown log
 known_light log envelope all known = through_light log envelope.stamp.group envelope.stamp.port envelope.stamp.number envelope.message all known
 
 -- the PUBLISH packets of marks that send only such messages
-pub marks_short : (marks : List (Mark Held)) → ((e : Held) → Contains (filter_map sent_in marks) e → IsLight e.message) → AllByRecursion IsShort (publishes_of marks)
-marks_short [] all = tt
-marks_short (Up receive_maximum ∷ marks) all = marks_short marks all
-marks_short (Sent identifier dup envelope ∷ marks) all =
-    (all envelope (contains_here envelope (filter_map sent_in marks)) dup envelope.subscription identifier, marks_short marks (λ e has. all e (contains_there envelope (filter_map sent_in marks) e has)))
-marks_short (Acked identifier code ∷ marks) all = marks_short marks all
-marks_short (Down ∷ marks) all = marks_short marks all
+pub marks_short : (now : ℕ) (marks : List (Mark Held)) → ((e : Held) → Contains (filter_map sent_in marks) e → IsLight e.message) → AllByRecursion IsShort (publishes_of now marks)
+marks_short now [] all = tt
+marks_short now (Up receive_maximum ∷ marks) all = marks_short now marks all
+marks_short now (Sent identifier dup envelope ∷ marks) all = (
+  all envelope (contains_here envelope (filter_map sent_in marks)) now dup envelope.subscription identifier,
+  marks_short now marks (λ e has. all e (contains_there envelope (filter_map sent_in marks) e has)),
+)
+marks_short now (Acked identifier code ∷ marks) all = marks_short now marks all
+marks_short now (Down ∷ marks) all = marks_short now marks all
 
 -- a packet is short itself, or is one of the PUBLISH packets
 behind_first : (found : Option Packet) (others : List Packet) → AllByRecursion IsShort (cons_option found others) → AllByRecursion IsShort others
@@ -82,7 +84,7 @@ packets_short (packet ∷ others) all publishes = (
     first : IsShortUnlessHandedOn packet → IsShort packet
     first (inl short) = short
     first (inr on) =
-        let its : AllByRecursion IsShort (cons_option (as_publish (job on.dup on.message on.subscription on.identifier)) (publishes_in others)) =
+        let its : AllByRecursion IsShort (cons_option (as_publish (job on.now on.dup on.message on.subscription on.identifier)) (publishes_in others)) =
         subst (λ (p : Packet). AllByRecursion IsShort (cons_option (as_publish p) (publishes_in others))) on.is publishes in
         subst IsShort (sym on.is) its.0
 

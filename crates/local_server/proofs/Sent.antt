@@ -158,14 +158,14 @@ legal_behind [] behind s legal = legal
 legal_behind (mark ∷ before) behind s legal = legal_behind before behind (window_after s mark) legal.2
 
 -- a connection without a session acknowledges nothing
-pub none_first : (phase phase' : ConnPhase GroupPlace) (old new : Broker) (number : ℕ) (input : Input) (sent : List Packet) (next : Then) → connected_of phase ≡ None
-    → (step : Transcribes Calls old number phase input sent next phase' new) → acknowledged_of step.marks ≡ []
-none_first (Unconnected opened) phase' old new number input sent next none step =
+pub none_first : (phase phase' : ConnPhase GroupPlace) (old new : Broker) (number now : ℕ) (input : Input) (sent : List Packet) (next : Then) → connected_of phase ≡ None
+    → (step : Transcribes Calls old number phase now input sent next phase' new) → acknowledged_of step.marks ≡ []
+none_first (Unconnected opened) phase' old new number now input sent next none step =
     ⊎_elim (λ one. absurd one.0.confirmed) (λ (nothing : SettlesNone (Unconnected opened) input step.supply_calls next (discards_of step.outcomes) × (acknowledged_of step.marks ≡ [])). nothing.1) step.settles
-none_first (Waiting request ticks) phase' old new number input sent next none step =
+none_first (Waiting request ticks) phase' old new number now input sent next none step =
     ⊎_elim (λ one. absurd one.0.confirmed) (λ (nothing : SettlesNone (Waiting request ticks) input step.supply_calls next (discards_of step.outcomes) × (acknowledged_of step.marks ≡ [])). nothing.1) step.settles
-none_first (Connected connected) phase' old new number input sent next none step = absurd (cc)
-none_first Ended phase' old new number input sent next none step =
+none_first (Connected connected) phase' old new number now input sent next none step = absurd (cc)
+none_first Ended phase' old new number now input sent next none step =
     ⊎_elim (λ one. absurd one.0.confirmed) (λ (nothing : SettlesNone Ended input step.supply_calls next (discards_of step.outcomes) × (acknowledged_of step.marks ≡ [])). nothing.1) step.settles
 
 -- one that has its own acknowledges what that holds, or nothing
@@ -181,13 +181,13 @@ confirmed_one (inputs.Packet (packets.Puback puback)) connected marks acked enve
     record { acked = acked; its = envelope; one = one; has = subst (λ (k : ℕ). Contains (held_of connected.session.window) (k, envelope)) (sym (ap (λ (x : ℕ × ℕ). x.0) by)) confirms.1 }
 confirmed_one input connected marks acked envelope fate confirms one by = absurd (confirms)
 
-pub acks : (phase phase' : ConnPhase GroupPlace) (connected : ConnectedClient GroupPlace) (old new : Broker) (number : ℕ) (input : Input) (sent : List Packet) (next : Then)
-    → connected_of phase ≡ Some connected → (step : Transcribes Calls old number phase input sent next phase' new) → AcksOne connected step.marks ⊎ (acknowledged_of step.marks ≡ [])
-acks (Unconnected opened) phase' connected old new number input sent next is step = absurd (cc)
-acks (Waiting request ticks) phase' connected old new number input sent next is step = absurd (cc)
-acks (Connected own) phase' connected old new number input sent next is step =
+pub acks : (phase phase' : ConnPhase GroupPlace) (connected : ConnectedClient GroupPlace) (old new : Broker) (number now : ℕ) (input : Input) (sent : List Packet) (next : Then)
+    → connected_of phase ≡ Some connected → (step : Transcribes Calls old number phase now input sent next phase' new) → AcksOne connected step.marks ⊎ (acknowledged_of step.marks ≡ [])
+acks (Unconnected opened) phase' connected old new number now input sent next is step = absurd (cc)
+acks (Waiting request ticks) phase' connected old new number now input sent next is step = absurd (cc)
+acks (Connected own) phase' connected old new number now input sent next is step =
     subst (λ (l : ConnectedClient GroupPlace). AcksOne l step.marks ⊎ (acknowledged_of step.marks ≡ [])) (same_Some own connected is)
     (⊎_elim
     (λ one. inl (confirmed_one input own step.marks one.1.0 one.0.envelope one.0.fate one.0.confirmed one.1.1 one.1.2))
     (λ (nothing : SettlesNone (Connected own) input step.supply_calls next (discards_of step.outcomes) × (acknowledged_of step.marks ≡ [])). inr nothing.1) step.settles)
-acks Ended phase' connected old new number input sent next is step = absurd (cc)
+acks Ended phase' connected old new number now input sent next is step = absurd (cc)

@@ -62,20 +62,20 @@ module _ (conn_steps : List ConnStep) (conn_step : ConnStep) where
   sends_nothing : (marks : List (Mark Held)) → conn_step.marks ≡ marks → filter_map sent_in marks ≡ [] → (e : Held) → Contains (filter_map sent_in conn_step.marks) e → ⊥
   sends_nothing marks are none e sent = contains_nil e (subst (λ (l : List Held). Contains l e) (ap (filter_map sent_in) are ∙ none) sent)
 
-  sends_by : (before after : Option (ConnectedClient GroupPlace)) (phase phase' : ConnPhase GroupPlace) (old new : Broker) (number : ℕ) (input : Input) (sent : List Packet) (next : Then)
+  sends_by : (before after : Option (ConnectedClient GroupPlace)) (phase phase' : ConnPhase GroupPlace) (old new : Broker) (number now : ℕ) (input : Input) (sent : List Packet) (next : Then)
       (log log' : Log) → StaysKnown log log' → connected_of phase ≡ before → connected_of phase' ≡ after
-      → (step : Transcribes Calls old number phase input sent next phase' new) → conn_step.marks ≡ step.marks
+      → (step : Transcribes Calls old number phase now input sent next phase' new) → conn_step.marks ≡ step.marks
       → SessionSteps Calls old number before after step.marks new
       → ((connected : ConnectedClient GroupPlace) → before ≡ Some connected → IsIts conn_step conn_steps log connected) → ((connected : ConnectedClient GroupPlace) → after ≡ Some connected → IsIts conn_step behind log' connected)
       → (e : Held) → Contains (filter_map sent_in conn_step.marks) e → IsKnown log' e
-  sends_by None None phase phase' old new number input sent next log log' stays from to step are session was is e has =
+  sends_by None None phase phase' old new number now input sent next log log' stays from to step are session was is e has =
       absurd (sends_nothing [] (are ∙ session.0) refl e has)
-  sends_by None (Some connected') phase phase' old new number input sent next log log' stays from to step are session was is e has =
+  sends_by None (Some connected') phase phase' old new number now input sent next log log' stays from to step are session was is e has =
       let here = is connected' refl in
-      let none : acknowledged_of conn_step.marks ≡ [] = ap acknowledged_of are ∙ none_first phase phase' old new number input sent next from step in
+      let none : acknowledged_of conn_step.marks ≡ [] = ap acknowledged_of are ∙ none_first phase phase' old new number now input sent next from step in
       held_known log' connected' here e
       (none_acked conn_step.marks stood none (legal_behind (transcript_of conn_step.session conn_steps) conn_step.marks (window_down []) (legal log' connected' here)) e has)
-  sends_by (Some connected) (Some connected') phase phase' old new number input sent next log log' stays from to step are session was is e has =
+  sends_by (Some connected) (Some connected') phase phase' old new number now input sent next log log' stays from to step are session was is e has =
       let here = is connected' refl in
       let its = was connected refl in
       let may = legal_behind (transcript_of conn_step.session conn_steps) conn_step.marks (window_down []) (legal log' connected' here) in
@@ -88,14 +88,14 @@ module _ (conn_steps : List ConnStep) (conn_step : ConnStep) where
       (one_acked conn_step.marks stood one.acked one.its (ap acknowledged_of are ∙ one.one) may
       (subst (λ (s : WindowState Held). Contains s.held (one.acked.0, one.its)) (sym same) one.has) e has))
       (λ (none : acknowledged_of step.marks ≡ []). held_known log' connected' here e (none_acked conn_step.marks stood (ap acknowledged_of are ∙ none) may e has))
-      (acks phase phase' connected old new number input sent next from step)
-  sends_by (Some connected) None phase phase' old new number input sent next log log' stays from to step are session was is e has =
+      (acks phase phase' connected old new number now input sent next from step)
+  sends_by (Some connected) None phase phase' old new number now input sent next log log' stays from to step are session was is e has =
       absurd (sends_nothing _ (are ∙ session.marks_are) refl e has)
 
-pub sends : (conn_steps : List ConnStep) (conn_step : ConnStep) (phase phase' : ConnPhase GroupPlace) (old new : Broker) (number : ℕ) (input : Input) (sent : List Packet) (next : Then)
-    (log log' : Log) → StaysKnown log log' → (step : Transcribes Calls old number phase input sent next phase' new) → conn_step.marks ≡ step.marks
+pub sends : (conn_steps : List ConnStep) (conn_step : ConnStep) (phase phase' : ConnPhase GroupPlace) (old new : Broker) (number now : ℕ) (input : Input) (sent : List Packet) (next : Then)
+    (log log' : Log) → StaysKnown log log' → (step : Transcribes Calls old number phase now input sent next phase' new) → conn_step.marks ≡ step.marks
     → ((connected : ConnectedClient GroupPlace) → connected_of phase ≡ Some connected → IsIts conn_step conn_steps log connected)
     → ((connected : ConnectedClient GroupPlace) → connected_of phase' ≡ Some connected → IsIts conn_step (conn_steps ++ conn_step ∷ []) log' connected)
     → (e : Held) → Contains (filter_map sent_in conn_step.marks) e → IsKnown log' e
-sends conn_steps conn_step phase phase' old new number input sent next log log' stays step are was is e has =
-    sends_by conn_steps conn_step (connected_of phase) (connected_of phase') phase phase' old new number input sent next log log' stays refl refl step are step.session was is e has
+sends conn_steps conn_step phase phase' old new number now input sent next log log' stays step are was is e has =
+    sends_by conn_steps conn_step (connected_of phase) (connected_of phase') phase phase' old new number now input sent next log log' stays refl refl step are step.session was is e has

@@ -41,11 +41,12 @@ GoesAs None (Some connected) next = next ≡ Go
 GoesAs (Some connected) (Some connected') next = next ≡ Go
 GoesAs (Some connected) None next = next ≢ Go
 
--- a step of this connection added these marks
-pub record AddsStep (conn_steps : List ConnStep) (all_connected : Links) (number : ℕ) (input : Input) (next : Then) (marks : List (Mark Held)) (outcomes : List (Outcome GroupPlace)) (after : Option (ConnectedClient GroupPlace)) (new : Broker)
+-- a step of this connection at this moment added these marks
+pub record AddsStep (conn_steps : List ConnStep) (all_connected : Links) (number now : ℕ) (input : Input) (next : Then) (marks : List (Mark Held)) (outcomes : List (Outcome GroupPlace)) (after : Option (ConnectedClient GroupPlace)) (new : Broker)
     : Type 0 where
   pub conn_step : ConnStep
   pub whose : conn_step.connection ≡ number
+  pub at_is : conn_step.at ≡ now
   pub input_is : conn_step.input ≡ input
   pub next_is : conn_step.next ≡ next
   pub place_is : conn_step.place ≡ place_of after
@@ -99,13 +100,13 @@ has_connected conn_steps conn_step new connected its holds leads up other is =
       up = up;
     })
 
-begins : (conn_steps : List ConnStep) (old new : Broker) (all_connected : Links) (number : ℕ) (input : Input) (next : Then) (connected : ConnectedClient GroupPlace) (marks : List (Mark Held)) (outcomes : List (Outcome GroupPlace))
+begins : (conn_steps : List ConnStep) (old new : Broker) (all_connected : Links) (number now : ℕ) (input : Input) (next : Then) (connected : ConnectedClient GroupPlace) (marks : List (Mark Held)) (outcomes : List (Outcome GroupPlace))
     → SessionBegins Calls old number connected marks new → next ≡ Go
-    → all_connected number ≡ None → KeepsSessions conn_steps old.desk all_connected → AddsStep conn_steps all_connected number input next marks outcomes (Some connected) new
-begins conn_steps old new all_connected number input next connected marks outcomes begin on free was =
+    → all_connected number ≡ None → KeepsSessions conn_steps old.desk all_connected → AddsStep conn_steps all_connected number now input next marks outcomes (Some connected) new
+begins conn_steps old new all_connected number now input next connected marks outcomes begin on free was =
     let session = begin.session in
     let got = got_aside conn_steps begin.mid new all_connected number session begin.aside (gets conn_steps old begin.mid all_connected number begin.answer session begin.given begin.asks was) in
-    let conn_step : ConnStep = record { connection = number; input = input; next = next; session = session.identity.number; place = place_of (Some connected); marks = marks; outcomes = outcomes } in
+    let conn_step : ConnStep = record { connection = number; at = now; input = input; next = next; session = session.identity.number; place = place_of (Some connected); marks = marks; outcomes = outcomes } in
     let its : session.identity.number ≡ connected.session.identity.number = ap (λ w. w.number) (sym begin.same) in
     let up =
     leads_up (transcript_of session.identity.number conn_steps) connected.terms.receive_maximum session.window connected.session.window begin.calls got.in_hand.stands.leads begin.within begin.made in
@@ -116,6 +117,7 @@ begins conn_steps old new all_connected number input next connected marks outcom
     record {
       conn_step = conn_step;
       whose = refl;
+      at_is = refl;
       input_is = refl;
       next_is = refl;
       place_is = refl;
@@ -126,13 +128,13 @@ begins conn_steps old new all_connected number input next connected marks outcom
       keeps = turned conn_steps conn_step new.desk all_connected (Some connected) got.keeps got.in_hand.holds is_conn_step leads.legal (has_connected conn_steps conn_step new connected its got.in_hand.holds leads up.1);
     }
 
-goes_on : (conn_steps : List ConnStep) (old new : Broker) (all_connected : Links) (number : ℕ) (input : Input) (next : Then) (connected connected' : ConnectedClient GroupPlace) (marks : List (Mark Held)) (outcomes : List (Outcome GroupPlace))
+goes_on : (conn_steps : List ConnStep) (old new : Broker) (all_connected : Links) (number now : ℕ) (input : Input) (next : Then) (connected connected' : ConnectedClient GroupPlace) (marks : List (Mark Held)) (outcomes : List (Outcome GroupPlace))
     → SessionGoesOn Calls old connected connected' marks new → next ≡ Go
-    → all_connected number ≡ Some connected → KeepsSessions conn_steps old.desk all_connected → AddsStep conn_steps all_connected number input next marks outcomes (Some connected') new
-goes_on conn_steps old new all_connected number input next connected connected' marks outcomes goes on has was =
+    → all_connected number ≡ Some connected → KeepsSessions conn_steps old.desk all_connected → AddsStep conn_steps all_connected number now input next marks outcomes (Some connected') new
+goes_on conn_steps old new all_connected number now input next connected connected' marks outcomes goes on has was =
     let keeps = step_aside conn_steps old new all_connected goes.aside was in
     let had = keeps.has_connected number connected has in
-    let conn_step : ConnStep = record { connection = number; input = input; next = next; session = connected.session.identity.number; place = place_of (Some connected'); marks = marks; outcomes = outcomes } in
+    let conn_step : ConnStep = record { connection = number; at = now; input = input; next = next; session = connected.session.identity.number; place = place_of (Some connected'); marks = marks; outcomes = outcomes } in
     let its : connected.session.identity.number ≡ connected'.session.identity.number = ap (λ w. w.number) (sym goes.same) in
     let up = stays_up goes.calls connected.session.window connected'.session.window had.up (subst (AllByRecursion IsWithin) goes.marks_are goes.within) goes.made in
     let leads = leads_there conn_steps conn_step (made_by goes.calls) connected'.session.window goes.marks_are
@@ -142,6 +144,7 @@ goes_on conn_steps old new all_connected number input next connected connected' 
     record {
       conn_step = conn_step;
       whose = refl;
+      at_is = refl;
       input_is = refl;
       next_is = refl;
       place_is = refl;
@@ -153,13 +156,13 @@ goes_on conn_steps old new all_connected number input next connected connected' 
     }
 
 -- the session is handed in
-ends : (conn_steps : List ConnStep) (old new : Broker) (all_connected : Links) (number : ℕ) (input : Input) (next : Then) (connected : ConnectedClient GroupPlace) (marks : List (Mark Held)) (outcomes : List (Outcome GroupPlace))
+ends : (conn_steps : List ConnStep) (old new : Broker) (all_connected : Links) (number now : ℕ) (input : Input) (next : Then) (connected : ConnectedClient GroupPlace) (marks : List (Mark Held)) (outcomes : List (Outcome GroupPlace))
     → SessionEnds Calls old connected marks new → next ≢ Go
-    → all_connected number ≡ Some connected → KeepsSessions conn_steps old.desk all_connected → AddsStep conn_steps all_connected number input next marks outcomes None new
-ends conn_steps old new all_connected number input next connected marks outcomes end stops has was =
+    → all_connected number ≡ Some connected → KeepsSessions conn_steps old.desk all_connected → AddsStep conn_steps all_connected number now input next marks outcomes None new
+ends conn_steps old new all_connected number now input next connected marks outcomes end stops has was =
     let had = was.has_connected number connected has in
     let n = connected.session.identity.number in
-    let conn_step : ConnStep = record { connection = number; input = input; next = next; session = n; place = None; marks = marks; outcomes = outcomes } in
+    let conn_step : ConnStep = record { connection = number; at = now; input = input; next = next; session = n; place = None; marks = marks; outcomes = outcomes } in
     let more : List ConnStep = conn_steps ++ conn_step ∷ [] in
     let leads = leads_there conn_steps conn_step (Down ∷ []) (after_down connected.session.window) end.marks_are (leads_down (transcript_of n conn_steps) connected.session.window had.leads) in
     let is_conn_step : IsStepOf (session_of (all_connected number)) conn_step None =
@@ -179,6 +182,7 @@ ends conn_steps old new all_connected number input next connected marks outcomes
     record {
       conn_step = conn_step;
       whose = refl;
+      at_is = refl;
       input_is = refl;
       next_is = refl;
       place_is = refl;
@@ -217,19 +221,20 @@ vain conn_steps old new all_connected number asked free was =
     step_aside conn_steps back.1 new all_connected back.4 (returned conn_steps asked.mid back.1 all_connected number back.0 back.3 free got))
     asked.vain
 
-nothing : (conn_steps : List ConnStep) (old new : Broker) (all_connected : Links) (number : ℕ) (input : Input) (next : Then) (marks : List (Mark Held)) (outcomes : List (Outcome GroupPlace))
+nothing : (conn_steps : List ConnStep) (old new : Broker) (all_connected : Links) (number now : ℕ) (input : Input) (next : Then) (marks : List (Mark Held)) (outcomes : List (Outcome GroupPlace))
     → (marks ≡ []) × (LeadsAside Calls old new ⊎ AsksInVain Calls old number new)
-    → all_connected number ≡ None → KeepsSessions conn_steps old.desk all_connected → AddsStep conn_steps all_connected number input next marks outcomes None new
-nothing conn_steps old new all_connected number input next marks outcomes none free was =
+    → all_connected number ≡ None → KeepsSessions conn_steps old.desk all_connected → AddsStep conn_steps all_connected number now input next marks outcomes None new
+nothing conn_steps old new all_connected number now input next marks outcomes none free was =
     let keeps : KeepsSessions conn_steps new.desk all_connected =
     ⊎_elim
     (λ (leads : LeadsAside Calls old new). step_aside conn_steps old new all_connected leads was)
     (λ (asked : AsksInVain Calls old number new). vain conn_steps old new all_connected number asked free was)
     none.1 in
-    let conn_step : ConnStep = record { connection = number; input = input; next = next; session = 0; place = None; marks = marks; outcomes = outcomes } in
+    let conn_step : ConnStep = record { connection = number; at = now; input = input; next = next; session = 0; place = None; marks = marks; outcomes = outcomes } in
     record {
       conn_step = conn_step;
       whose = refl;
+      at_is = refl;
       input_is = refl;
       next_is = refl;
       place_is = refl;
@@ -240,10 +245,10 @@ nothing conn_steps old new all_connected number input next marks outcomes none f
       keeps = subst (λ (l : Links). KeepsSessions (conn_steps ++ conn_step ∷ []) new.desk l) (sym (with_same all_connected number None free)) (quiet conn_steps conn_step new.desk all_connected none.0 free keeps);
     }
 
-pub adds_step : (before after : Option (ConnectedClient GroupPlace)) (conn_steps : List ConnStep) (old new : Broker) (all_connected : Links) (number : ℕ) (input : Input) (next : Then)
+pub adds_step : (before after : Option (ConnectedClient GroupPlace)) (conn_steps : List ConnStep) (old new : Broker) (all_connected : Links) (number now : ℕ) (input : Input) (next : Then)
     (marks : List (Mark Held)) (outcomes : List (Outcome GroupPlace)) → SessionSteps Calls old number before after marks new → GoesAs before after next → all_connected number ≡ before → KeepsSessions conn_steps old.desk all_connected
-    → AddsStep conn_steps all_connected number input next marks outcomes after new
-adds_step None None conn_steps old new all_connected number input next marks outcomes conn_steps_it goes has was = nothing conn_steps old new all_connected number input next marks outcomes conn_steps_it has was
-adds_step None (Some connected) conn_steps old new all_connected number input next marks outcomes conn_steps_it goes has was = begins conn_steps old new all_connected number input next connected marks outcomes conn_steps_it goes has was
-adds_step (Some connected) (Some connected') conn_steps old new all_connected number input next marks outcomes conn_steps_it goes has was = goes_on conn_steps old new all_connected number input next connected connected' marks outcomes conn_steps_it goes has was
-adds_step (Some connected) None conn_steps old new all_connected number input next marks outcomes conn_steps_it goes has was = ends conn_steps old new all_connected number input next connected marks outcomes conn_steps_it goes has was
+    → AddsStep conn_steps all_connected number now input next marks outcomes after new
+adds_step None None conn_steps old new all_connected number now input next marks outcomes conn_steps_it goes has was = nothing conn_steps old new all_connected number now input next marks outcomes conn_steps_it has was
+adds_step None (Some connected) conn_steps old new all_connected number now input next marks outcomes conn_steps_it goes has was = begins conn_steps old new all_connected number now input next connected marks outcomes conn_steps_it goes has was
+adds_step (Some connected) (Some connected') conn_steps old new all_connected number now input next marks outcomes conn_steps_it goes has was = goes_on conn_steps old new all_connected number now input next connected connected' marks outcomes conn_steps_it goes has was
+adds_step (Some connected) None conn_steps old new all_connected number now input next marks outcomes conn_steps_it goes has was = ends conn_steps old new all_connected number now input next connected marks outcomes conn_steps_it goes has was

@@ -1,5 +1,6 @@
 -- The transcripts of the sessions of a server, along every run.
-use Rattle.std.proofs.Common.{◌≡◌, ◌≢◌, ℕ, zero, suc, Bool, true, false, List, [], ◌∷◌, ◌++◌, map, Option, Some, None, Result, Ok, IsOk, filter_map, slice_get, slice_set, replicate, refl, sym, ap, subst, ◌∙◌, ⊎_elim, arith, append-nil}
+use Rattle.std.proofs.Common.{◌≡◌, ◌≢◌, ◌≤◌, ℕ, zero, suc, max, Bool, true, false, List, [], ◌∷◌, ◌++◌, map, Option, Some, None, Result, Ok, IsOk, filter_map, slice_get, slice_set, replicate, refl, sym, ap, subst, ◌∙◌, ⊎_elim, arith, append-nil}
+use Rattle.std.proofs.Math.Nat.{le-max_left}
 use Rattle.std.specs.Result.{result_and}
 use Rattle.std.specs.Ordering.{nat_cmp}
 use Rattle.std.specs.FinMap as map
@@ -22,6 +23,7 @@ use Rattle.conn_supply.specs.declared.supply.NoMemory.{NoMemory}
 use Rattle.conn_engine.specs.declared.input.Input.TheVariants as inputs
 use Rattle.conn_engine.specs.declared.phase.ConnectedClient.{ConnectedClient}
 use Rattle.conn_engine.specs.declared.phase.Opening.{Opening}
+use Rattle.conn_laws.proofs.Aside.{all_of_both}
 use Rattle.client_table.specs.Cells.{InCell, Opens}
 use Rattle.client_table.specs.Clients.{ClientState, StepOutput}
 use Rattle.local_broker.specs.Places.{GroupPlace}
@@ -58,8 +60,9 @@ use Rattle.local_server.proofs.Lent.{IsLentTo, one_holder}
 use Rattle.local_server.proofs.Sessions.{with_connected, connected_here, connected_beside, with_same, KeepsSessions}
 use Rattle.local_server.proofs.Stepping.{Links}
 use Rattle.local_server.proofs.Turning.{Keeps, Says, silent, then_says, says_so, receives, ticks_for, ends_for}
-use Rattle.local_server.proofs.Reading.{EndsSteps, ends_heard}
-use Rattle.local_server.proofs.Unfaulted.{AreUnfaulted, unfaulted_at, still_unfaulted, new_unfaulted}
+use Rattle.local_server.proofs.Reading.{AllAt, EndsSteps, ends_heard}
+use Rattle.local_server.proofs.Sound as sounding
+use Rattle.local_server.proofs.Sound.{AreSound, sound_at, sound_later, still_sound, new_sound}
 use Rattle.local_server.proofs.Heard.{client_in, cell_heard, EndsBelow, none_below, one_more_below, untouched}
 
 -- what the clients in these cells have
@@ -99,33 +102,38 @@ opened number opening (Some client) after does = ap (λ (c : Option (ClientState
 
 -- the close
 ended : (number : ℕ) (first : Broker) (conn_steps : List ConnStep) (old new : Broker) (clients clients' : Clients) (now : ℕ) (said : List StepOutput) (result : Result (Unit {0}) NoMemory)
-    → IsOk result → AreNumbered clients → Keeps first conn_steps (all_connected_at clients) old → (ends : EndsAt number old clients now said result clients' new)
-    → Says first conn_steps said (EndsSteps number inputs.Closing (client_at clients number)) (all_connected_at clients') new
-ended number first conn_steps old new clients clients' now said result ok all keeps ends =
-    subst (λ (c : Option (ClientState GroupPlace)). Says first conn_steps said (EndsSteps number inputs.Closing c) (all_connected_at clients') new) (sym (client_in clients number ends.before ends.has))
-    (in_cell first conn_steps said clients clients' number old new _ (EndsSteps number inputs.Closing ends.before) ends keeps
+    → IsOk result → AreNumbered clients → AreSound now clients → Keeps first conn_steps (all_connected_at clients) old → (ends : EndsAt number old clients now said result clients' new)
+    → Says first conn_steps said (AllAt now (EndsSteps number inputs.Closing (client_at clients number))) (all_connected_at clients') new
+ended number first conn_steps old new clients clients' now said result ok all sound keeps ends =
+    subst (λ (c : Option (ClientState GroupPlace)). Says first conn_steps said (AllAt now (EndsSteps number inputs.Closing c)) (all_connected_at clients') new)
+    (sym (client_in clients number ends.before ends.has))
+    (in_cell first conn_steps said clients clients' number old new _ (AllAt now (EndsSteps number inputs.Closing ends.before)) ends keeps
     (λ has.
-    ends_for result ends.before ends.after first conn_steps (all_connected_at clients) number old new now inputs.Closing said ok tt (at ends.before clients number all ends.has) has ends.becomes))
+    ends_for result ends.before ends.after first conn_steps (all_connected_at clients) number old new now inputs.Closing said ok tt (at ends.before clients number all ends.has)
+    (sound_at ends.before clients number now sound ends.has) has ends.becomes))
 
 first_ended : (number : ℕ) (first : Broker) (conn_steps : List ConnStep) (old new : Broker) (clients clients' : Clients) (now : ℕ) (said : List StepOutput) (result : Result (Unit {0}) NoMemory)
-    → IsOk result → AreNumbered clients → Keeps first conn_steps (all_connected_at clients) old → EndsFirst number old clients now said result clients' new
-    → Says first conn_steps said (EndsBelow number clients) (all_connected_at clients') new
-first_ended zero first conn_steps old new clients clients' now said result ok all keeps ends =
-    subst (λ (c : Clients). Says first conn_steps said (EndsBelow 0 clients) (all_connected_at c) new) (sym ends.2)
-    (silent first conn_steps (EndsBelow 0 clients) (all_connected_at clients) old new said (none_below clients) ends.0 ends.3 keeps)
-first_ended (suc number) first conn_steps old new clients clients' now said result ok all keeps ends =
+    → IsOk result → AreNumbered clients → AreSound now clients → Keeps first conn_steps (all_connected_at clients) old → EndsFirst number old clients now said result clients' new
+    → Says first conn_steps said (AllAt now (EndsBelow number clients)) (all_connected_at clients') new
+first_ended zero first conn_steps old new clients clients' now said result ok all sound keeps ends =
+    subst (λ (c : Clients). Says first conn_steps said (AllAt now (EndsBelow 0 clients)) (all_connected_at c) new) (sym ends.2)
+    (silent first conn_steps (AllAt now (EndsBelow 0 clients)) (all_connected_at clients) old new said (tt, none_below clients) ends.0 ends.3 keeps)
+first_ended (suc number) first conn_steps old new clients clients' now said result ok all sound keeps ends =
     let both : IsOk (result_and ends.4 ends.5) = subst IsOk ends.9 ok in
-    subst (λ (s : List StepOutput). Says first conn_steps s (EndsBelow (suc number) clients) (all_connected_at clients') new) (sym ends.8)
-    (then_says first conn_steps ends.2 ends.3 (EndsBelow number clients) (EndsSteps number inputs.Closing (client_at ends.1 number)) (EndsBelow (suc number) clients)
-    (all_connected_at ends.1) (all_connected_at clients') ends.0 new
-    (λ these those below last.
-    one_more_below number clients these those below
-    (subst (λ (c : Option (ClientState GroupPlace)). EndsSteps number inputs.Closing c those)
-    (untouched number number old ends.0 clients ends.1 now ends.2 ends.4 (omega arith) ends.6) last))
-    (first_ended number first conn_steps old ends.0 clients ends.1 now ends.2 ends.4 (first_ok ends.4 ends.5 both) all keeps ends.6)
+    subst (λ (s : List StepOutput). Says first conn_steps s (AllAt now (EndsBelow (suc number) clients)) (all_connected_at clients') new) (sym ends.8)
+    (then_says first conn_steps ends.2 ends.3 (AllAt now (EndsBelow number clients)) (AllAt now (EndsSteps number inputs.Closing (client_at ends.1 number)))
+    (AllAt now (EndsBelow (suc number) clients)) (all_connected_at ends.1) (all_connected_at clients') ends.0 new
+    (λ these those below last. (
+      all_of_both (λ (t : ConnStep). t.at ≡ now) these those below.0 last.0,
+      one_more_below number clients these those below.1
+          (subst (λ (c : Option (ClientState GroupPlace)). EndsSteps number inputs.Closing c those)
+          (untouched number number old ends.0 clients ends.1 now ends.2 ends.4 (omega arith) ends.6) last.1),
+    ))
+    (first_ended number first conn_steps old ends.0 clients ends.1 now ends.2 ends.4 (first_ok ends.4 ends.5 both) all sound keeps ends.6)
     (λ before kept.
     ended number first before ends.0 new ends.1 clients' now ends.3 ends.5 (then_ok ends.4 ends.5 both)
-    (addressed.first_ended number old ends.0 clients ends.1 now ends.2 ends.4 all ends.6) kept ends.7))
+    (addressed.first_ended number old ends.0 clients ends.1 now ends.2 ends.4 all ends.6)
+    (sounding.first_ended number old ends.0 clients ends.1 now ends.2 ends.4 (first_ok ends.4 ends.5 both) sound ends.6) kept ends.7))
 
 shut : (first : Broker) (conn_steps : List ConnStep) (all_connected : Links) (old closed : Broker) → Closes old closed → Keeps first conn_steps all_connected old → Keeps first conn_steps all_connected closed
 shut first conn_steps all_connected old closed closes keeps =
@@ -151,49 +159,49 @@ shut first conn_steps all_connected old closed closes keeps =
 
 -- an event, where no allocation failed
 does : (max_inflight : ℕ) (event : ServerEvent) (first : Broker) (conn_steps : List ConnStep) (old new : Broker) (clients clients' : Clients) (now : ℕ) (said : List StepOutput) (result : Result (Unit {0}) NoMemory)
-    → IsOk result → AreNumbered clients → AreUnfaulted clients → Keeps first conn_steps (all_connected_at clients) old → Does event max_inflight old clients now said result clients' new
-    → Says first conn_steps said (λ more. EventIsAnswered event clients more clients') (all_connected_at clients') new
+    → IsOk result → AreNumbered clients → AreSound now clients → Keeps first conn_steps (all_connected_at clients) old → Does event max_inflight old clients now said result clients' new
+    → Says first conn_steps said (AllAt now (λ more. EventIsAnswered event clients more clients')) (all_connected_at clients') new
 does max_inflight (events.Open number) first conn_steps old new clients clients' now said result ok all sound keeps done =
     let cell = done.0 in
-    let Silent : List ConnStep → Type 0 = λ more. more ≡ [] in
+    let Silent : List ConnStep → Type 0 = AllAt now (λ more. more ≡ []) in
     in_cell first conn_steps said clients clients' number old new _ Silent cell keeps
     (λ has.
     subst (λ (l : Option (ConnectedClient GroupPlace)). Says first conn_steps said Silent (with_connected (all_connected_at clients) number l) new) (opened number _ cell.before cell.after cell.becomes)
-    (silent first conn_steps Silent (with_connected (all_connected_at clients) number (connected_in (Some cell.before))) old new said refl done.2 done.1 has))
+    (silent first conn_steps Silent (with_connected (all_connected_at clients) number (connected_in (Some cell.before))) old new said (tt, refl) done.2 done.1 has))
 does max_inflight (events.Bytes number piece) first conn_steps old new clients clients' now said result ok all sound keeps cell =
-    cell_heard clients clients' number _ cell (λ before after. Says first conn_steps said (λ more. PieceIsAnswered before piece more after) (all_connected_at clients') new)
-    (in_cell first conn_steps said clients clients' number old new _ (λ more. PieceIsAnswered cell.before piece more cell.after) cell keeps
+    cell_heard clients clients' number _ cell (λ before after. Says first conn_steps said (AllAt now (λ more. PieceIsAnswered before piece more after)) (all_connected_at clients') new)
+    (in_cell first conn_steps said clients clients' number old new _ (AllAt now (λ more. PieceIsAnswered cell.before piece more cell.after)) cell keeps
     (λ has.
     receives result cell.before cell.after first conn_steps (all_connected_at clients) number old new now piece said ok (at cell.before clients number all cell.has)
-    (unfaulted_at cell.before clients number sound cell.has) has cell.becomes))
+    (sound_at cell.before clients number now sound cell.has) has cell.becomes))
 does max_inflight (events.Tick number) first conn_steps old new clients clients' now said result ok all sound keeps cell =
-    cell_heard clients clients' number _ cell (λ before after. Says first conn_steps said (λ more. TickIsAnswered before more after) (all_connected_at clients') new)
-    (in_cell first conn_steps said clients clients' number old new _ (λ more. TickIsAnswered cell.before more cell.after) cell keeps
+    cell_heard clients clients' number _ cell (λ before after. Says first conn_steps said (AllAt now (λ more. TickIsAnswered before more after)) (all_connected_at clients') new)
+    (in_cell first conn_steps said clients clients' number old new _ (AllAt now (λ more. TickIsAnswered cell.before more cell.after)) cell keeps
     (λ has.
     ticks_for result cell.before cell.after first conn_steps (all_connected_at clients) number old new now said ok (at cell.before clients number all cell.has)
-    (unfaulted_at cell.before clients number sound cell.has) has cell.becomes))
+    (sound_at cell.before clients number now sound cell.has) has cell.becomes))
 does max_inflight (events.End number) first conn_steps old new clients clients' now said result ok all sound keeps cell =
-    cell_heard clients clients' number _ cell (λ before after. Says first conn_steps said (LastIsAnswered inputs.EndOfInput before) (all_connected_at clients') new)
-    (says_so first conn_steps said (EndsSteps number inputs.EndOfInput cell.before) (LastIsAnswered inputs.EndOfInput cell.before) (all_connected_at clients') new
-    (λ these ends. ends_heard number inputs.EndOfInput cell.before these ends)
-    (in_cell first conn_steps said clients clients' number old new _ (EndsSteps number inputs.EndOfInput cell.before) cell keeps
+    cell_heard clients clients' number _ cell (λ before after. Says first conn_steps said (AllAt now (LastIsAnswered inputs.EndOfInput before)) (all_connected_at clients') new)
+    (says_so first conn_steps said (AllAt now (EndsSteps number inputs.EndOfInput cell.before)) (AllAt now (LastIsAnswered inputs.EndOfInput cell.before)) (all_connected_at clients') new
+    (λ these ends. (ends.0, ends_heard number inputs.EndOfInput cell.before these ends.1))
+    (in_cell first conn_steps said clients clients' number old new _ (AllAt now (EndsSteps number inputs.EndOfInput cell.before)) cell keeps
     (λ has.
     ends_for result cell.before cell.after first conn_steps (all_connected_at clients) number old new now inputs.EndOfInput said ok tt
-    (at cell.before clients number all cell.has) has cell.becomes)))
+    (at cell.before clients number all cell.has) (sound_at cell.before clients number now sound cell.has) has cell.becomes)))
 does max_inflight events.Close first conn_steps old new clients clients' now said result ok all sound keeps closes =
-    says_so first conn_steps said (EndsBelow closes.2 clients) (λ more. EventIsAnswered events.Close clients more clients') (all_connected_at clients') new
-    (λ these below number less. ends_heard number inputs.Closing (client_at clients number) _ ((below number).0 (let is = closes.3 in omega arith)))
-    (first_ended closes.2 first conn_steps closes.0 new clients clients' now said result ok all (shut first conn_steps (all_connected_at clients) old closes.0 closes.1 keeps) closes.4)
+    says_so first conn_steps said (AllAt now (EndsBelow closes.2 clients)) (AllAt now (λ more. EventIsAnswered events.Close clients more clients')) (all_connected_at clients') new
+    (λ these below. (below.0, λ number less. ends_heard number inputs.Closing (client_at clients number) _ ((below.1 number).0 (let is = closes.3 in omega arith))))
+    (first_ended closes.2 first conn_steps closes.0 new clients clients' now said result ok all sound (shut first conn_steps (all_connected_at clients) old closes.0 closes.1 keeps) closes.4)
 
 does_if : (max_inflight : ℕ) (open? : Bool) (event : ServerEvent) (first : Broker) (conn_steps : List ConnStep) (old new : Broker) (clients clients' : Clients) (now : ℕ) (said : List StepOutput)
     (result : Result (Unit {0}) NoMemory)
-    → IsOk result → AreNumbered clients → AreUnfaulted clients → Keeps first conn_steps (all_connected_at clients) old → DoesIf open? event max_inflight old clients now said result clients' new
-    → Says first conn_steps said (λ more. EventIsAnsweredIf open? event clients more clients') (all_connected_at clients') new
+    → IsOk result → AreNumbered clients → AreSound now clients → Keeps first conn_steps (all_connected_at clients) old → DoesIf open? event max_inflight old clients now said result clients' new
+    → Says first conn_steps said (AllAt now (λ more. EventIsAnsweredIf open? event clients more clients')) (all_connected_at clients') new
 does_if max_inflight true event first conn_steps old new clients clients' now said result ok all sound keeps done =
     does max_inflight event first conn_steps old new clients clients' now said result ok all sound keeps done
 does_if max_inflight false event first conn_steps old new clients clients' now said result ok all sound keeps done =
-    subst (λ (c : Clients). Says first conn_steps said (λ more. more ≡ []) (all_connected_at c) new) (sym done.2)
-    (silent first conn_steps (λ more. more ≡ []) (all_connected_at clients) old new said refl done.0 done.3 keeps)
+    subst (λ (c : Clients). Says first conn_steps said (AllAt now (λ more. more ≡ [])) (all_connected_at c) new) (sym done.2)
+    (silent first conn_steps (AllAt now (λ more. more ≡ [])) (all_connected_at clients) old new said (tt, refl) done.0 done.3 keeps)
 
 -- what is said is told by the steps
 and_told : (first : Broker) (conn_steps : List ConnStep) (said : List StepOutput) (Answers : List ConnStep → Type 0) (all_connected : Links) (new : Broker) → Says first conn_steps said Answers all_connected new
@@ -201,7 +209,11 @@ and_told : (first : Broker) (conn_steps : List ConnStep) (said : List StepOutput
 and_told first conn_steps said Answers all_connected new says =
     record { more = says.more; told = says.told; short = says.short; answers = (says.told, says.answers); keeps = says.keeps }
 
-happened : (events : List TimedEvent) (first : Broker) (conn_steps : List ConnStep) (said : List StepOutput) (old new : ServerState) → AreNumbered old.clients → AreUnfaulted old.clients
+-- the clock does not go back
+clock_later : (old new : ServerState) (moment : ℕ) → new.clock ≡ max old.clock moment → old.clock ≤ new.clock
+clock_later old new moment is = subst (λ (n : ℕ). old.clock ≤ n) (sym is) (le-max_left old.clock moment)
+
+happened : (events : List TimedEvent) (first : Broker) (conn_steps : List ConnStep) (said : List StepOutput) (old new : ServerState) → AreNumbered old.clients → AreSound old.clock old.clients
     → Keeps first conn_steps (all_connected_at old.clients) old.broker
     → (run : HappensAll old events said new) → Says first conn_steps said (λ more. AllAreAnswered old events said new run more) (all_connected_at new.clients) new.broker
 happened [] first conn_steps said old new all sound keeps run =
@@ -209,15 +221,16 @@ happened [] first conn_steps said old new all sound keeps run =
     (silent first conn_steps (λ more. more ≡ []) (all_connected_at old.clients) old.broker old.broker said refl run.0 refl keeps)
 happened (event ∷ others) first conn_steps said old new all sound keeps run =
     let mid = run.0 in
+    let timely = sound_later old.clients old.clock mid.clock (clock_later old mid event.moment run.3.clock) sound in
     subst (λ (s : List StepOutput). Says first conn_steps s (λ more. AllAreAnswered old (event ∷ others) said new run more) (all_connected_at new.clients) new.broker) (sym run.5)
-    (then_says first conn_steps run.1 run.2 (λ more. AllTell run.1 more × EventIsAnsweredIf (is_open old.broker) event.event old.clients more mid.clients)
+    (then_says first conn_steps run.1 run.2 (λ more. AllTell run.1 more × AllAt mid.clock (λ more. EventIsAnsweredIf (is_open old.broker) event.event old.clients more mid.clients) more)
     (λ more. AllAreAnswered mid others run.2 new run.4 more) (λ more. AllAreAnswered old (event ∷ others) said new run more) (all_connected_at mid.clients) (all_connected_at new.clients)
-    mid.broker new.broker (λ these those one other. (these, those, one.0, one.1, other, refl))
-    (and_told first conn_steps run.1 (λ more. EventIsAnsweredIf (is_open old.broker) event.event old.clients more mid.clients) (all_connected_at mid.clients) mid.broker
-    (does_if _ (is_open old.broker) event.event first conn_steps old.broker mid.broker old.clients mid.clients mid.clock run.1 (Ok tt) refl all sound keeps run.3.does))
+    mid.broker new.broker (λ these those one other. (these, those, one.0, one.1.0, one.1.1, other, refl))
+    (and_told first conn_steps run.1 (AllAt mid.clock (λ more. EventIsAnsweredIf (is_open old.broker) event.event old.clients more mid.clients)) (all_connected_at mid.clients) mid.broker
+    (does_if _ (is_open old.broker) event.event first conn_steps old.broker mid.broker old.clients mid.clients mid.clock run.1 (Ok tt) refl all timely keeps run.3.does))
     (λ before kept.
     happened others first before run.2 mid new (answered event.moment event.event run.1 (Ok tt) old mid all run.3).0
-    (still_unfaulted _ (is_open old.broker) event.event old.broker mid.broker old.clients mid.clients mid.clock run.1 (Ok tt) refl sound run.3.does) kept run.4))
+    (still_sound _ (is_open old.broker) event.event old.broker mid.broker old.clients mid.clients mid.clock run.1 (Ok tt) refl timely run.3.does) kept run.4))
 
 -- a new server: no session, and nobody has one
 none_at : (count connection : ℕ) → connected_in (slice_get (replicate {A = Option (ClientState GroupPlace)} count None) connection) ≡ None
@@ -272,7 +285,7 @@ starts setup first new =
 whole : (setup : Setup) (events : List TimedEvent) (said : List StepOutput) (first last : ServerState) → IsNewServer setup first → (run : HappensAll first events said last)
     → Says first.broker [] said (λ more. AllAreAnswered first events said last run more) (all_connected_at last.clients) last.broker
 whole setup events said first last new run =
-    happened events first.broker [] said first last (new_numbered setup first new) (new_unfaulted setup first new) (starts setup first new) run
+    happened events first.broker [] said first last (new_numbered setup first new) (new_sound setup first new) (starts setup first new) run
 
 -- two connections that have one session are one
 alone : (conn_steps : List ConnStep) (b : Broker) (all_connected : Links) (one other : ℕ) (these those : ConnectedClient GroupPlace) → KeepsSessions conn_steps b.desk all_connected
@@ -321,25 +334,27 @@ transcripts setup events said first last new run =
 
 -- at each moment of the run
 moments : (setup : Setup) (first : ServerState) (events : List TimedEvent) (conn_steps : List ConnStep) (said : List StepOutput) (old new : ServerState) → IsNewServer setup first
-    → AreNumbered old.clients → AreUnfaulted old.clients → Keeps first.broker conn_steps (all_connected_at old.clients) old.broker → AllWithinQuota old.clients
+    → AreNumbered old.clients → AreSound old.clock old.clients → Keeps first.broker conn_steps (all_connected_at old.clients) old.broker → AllWithinQuota old.clients
     → (run : HappensAll old events said new) → AccountAlong conn_steps old events said new run
 moments setup first [] conn_steps said old new is all sound keeps within run = account setup first conn_steps old is keeps within
 moments setup first (event ∷ others) conn_steps said old new is all sound keeps within run =
     let mid = run.0 in
-    let says = does_if _ (is_open old.broker) event.event first.broker conn_steps old.broker mid.broker old.clients mid.clients mid.clock run.1 (Ok tt) refl all sound keeps run.3.does in (
+    let timely = sound_later old.clients old.clock mid.clock (clock_later old mid event.moment run.3.clock) sound in
+    let says = does_if _ (is_open old.broker) event.event first.broker conn_steps old.broker mid.broker old.clients mid.clients mid.clock run.1 (Ok tt) refl all timely keeps run.3.does in (
       account setup first conn_steps old is keeps within,
       says.more,
       says.told,
-      says.answers,
+      says.answers.0,
+      says.answers.1,
       moments setup first others (conn_steps ++ says.more) run.2 mid new is (answered event.moment event.event run.1 (Ok tt) old mid all run.3).0
-          (still_unfaulted _ (is_open old.broker) event.event old.broker mid.broker old.clients mid.clients mid.clock run.1 (Ok tt) refl sound run.3.does) says.keeps
+          (still_sound _ (is_open old.broker) event.event old.broker mid.broker old.clients mid.clients mid.clock run.1 (Ok tt) refl timely run.3.does) says.keeps
           (quotas.happened event.moment event.event run.1 (Ok tt) old mid run.3 within) run.4,
     )
 
 pub along : (setup : Setup) (events : List TimedEvent) (said : List StepOutput) (first last : ServerState) → IsNewServer setup first → (run : HappensAll first events said last)
     → AccountAlong [] first events said last run
 along setup events said first last new run =
-    moments setup first events [] said first last new (new_numbered setup first new) (new_unfaulted setup first new) (starts setup first new) (quotas.new_within setup first new) run
+    moments setup first events [] said first last new (new_numbered setup first new) (new_sound setup first new) (starts setup first new) (quotas.new_within setup first new) run
 
 -- a group that was new has nothing settled but that
 settled_since : (setup : Setup) (first : ServerState) (settled : List Settlement) (last : Broker) → IsNewServer setup first → AddsIn first.broker.groups settled last.groups

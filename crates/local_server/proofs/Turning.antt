@@ -1,5 +1,5 @@
 -- What happens to a client is a list of steps.
-use Rattle.std.proofs.Common.{◌≡◌, ℕ, List, [], ◌∷◌, ◌++◌, map, filter_map, Option, Some, None, Result, Ok, Err, IsOk, false, Contains, refl, sym, ap, subst, ◌∙◌, inl, inr, ⊎_elim, append_assoc, append-nil}
+use Rattle.std.proofs.Common.{◌≡◌, ◌≤◌, ℕ, List, [], ◌∷◌, ◌++◌, map, filter_map, Option, Some, None, Result, Ok, Err, IsOk, false, Contains, refl, sym, ap, subst, ◌∙◌, inl, inr, ⊎_elim, append_assoc, append-nil}
 use Rattle.std.specs.List.{AllByRecursion}
 use Rattle.std.proofs.lemmas.Bool.{false≢true}
 use Rattle.std.proofs.lemmas.List.{map-append}
@@ -15,7 +15,7 @@ use Rattle.conn_engine.specs.declared.phase.ConnPhase.{ConnPhase}
 use Rattle.conn_engine.specs.declared.phase.ConnPhase.TheVariants.{Unconnected, Waiting, Connected, Ended}
 use Rattle.conn_engine.specs.Step.{Steps}
 use Rattle.conn_laws.specs.Calls.{handed, Outcome, hand_outs_of, sent_of, discards_of}
-use Rattle.conn_laws.specs.Marks.{publishes_of, fresh_of}
+use Rattle.conn_laws.specs.Marks.{publishes_in, publishes_of, fresh_of}
 use Rattle.conn_laws.specs.Transcripts.{connected_of, IsNotEnding, subscription_of}
 use Rattle.conn_laws.proofs.HandingOut.{all_discarded}
 use Rattle.conn_laws.proofs.Transcripts.{discarded_by, TranscribesWith, transcribed_with}
@@ -54,7 +54,7 @@ use Rattle.local_server.proofs.Confirmed.{conn_step_hears}
 use Rattle.local_server.proofs.Sessions.{with_connected, connected_here, with_again, KeepsSessions}
 use Rattle.local_server.proofs.Stepping.{Links, adds_step}
 use Rattle.local_server.proofs.Going.{goes_as, stopped, closed_by}
-use Rattle.local_server.proofs.Reading.{IsStep, EndsSteps, IsUnfaulted, left_to, fed_unread, read_first, read_last, tick_first, tick_last, one_ends}
+use Rattle.local_server.proofs.Reading.{IsStep, AllAt, EndsSteps, IsSound, made_now, still_timely, left_to, fed_unread, read_first, read_last, tick_first, tick_last, one_ends}
 
 abbrev messages : List Happening → List Held
 messages happenings = map (λ (h : HandOut). h.1) (handed_by_all happenings)
@@ -137,15 +137,15 @@ handed_on happenings supply_calls =
 
 stepped : (first : Broker) (conn_steps : List ConnStep) (all_connected : Links) (old new : Broker) (number : ℕ) (phase phase' : ConnPhase GroupPlace) (input : Input) (said : StepOutput)
     (now : ℕ) → said.connection ≡ number → IsSpelled input → (steps : Steps Calls slot_of old number phase now input said.packets said.next phase' new)
-    → TranscribesWith Calls (discarded_by Calls slot_of steps.between steps.mid new steps.sent phase' steps.hands) steps.mid old number phase input said.packets said.next phase' new
+    → TranscribesWith Calls (discarded_by Calls slot_of steps.between now steps.mid new steps.sent phase' steps.hands) steps.mid old number phase now input said.packets said.next phase' new
     → Keeps first conn_steps (with_connected all_connected number (connected_of phase)) old
-    → Says first conn_steps (said ∷ []) (IsStep number input said.next) (with_connected all_connected number (connected_of phase')) new
+    → Says first conn_steps (said ∷ []) (IsStep number now input said.next) (with_connected all_connected number (connected_of phase')) new
 stepped first conn_steps all_connected old new number phase phase' input said now its spelled steps both keeps =
     let step = both.step in
     let acts = acts (record { all_connected = all_connected; log = keeps.accepted }) old new number now phase phase' input said.packets said.next steps keeps.owns in
     let goes = goes_as old new number now phase phase' input said.packets said.next steps in
     let adds =
-    adds_step (connected_of phase) (connected_of phase') conn_steps old new (with_connected all_connected number (connected_of phase)) number input said.next step.marks step.outcomes step.session goes
+    adds_step (connected_of phase) (connected_of phase') conn_steps old new (with_connected all_connected number (connected_of phase)) number now input said.next step.marks step.outcomes step.session goes
     (connected_here all_connected number (connected_of phase)) keeps.sessions in
     let here : with_connected all_connected number (connected_of phase) number ≡ connected_of phase = connected_here all_connected number (connected_of phase) in
     let leads = λ (connected : ConnectedClient GroupPlace) (has : connected_of phase ≡ Some connected). (keeps.sessions.has_connected number connected (here ∙ has)).leads in
@@ -159,7 +159,7 @@ stepped first conn_steps all_connected old new number phase phase' input said no
     let again = with_again all_connected number (connected_of phase) (connected_of phase') in
     let now_keeps = subst (KeepsSessions (conn_steps ++ adds.conn_step ∷ []) new.desk) again adds.keeps in
     let stays = stays_known keeps.accepted acts.accepted in
-    let sends_known = sends conn_steps adds.conn_step phase phase' old new number input said.packets said.next keeps.accepted (keeps.accepted ++ acts.accepted) stays step adds.marks_are
+    let sends_known = sends conn_steps adds.conn_step phase phase' old new number now input said.packets said.next keeps.accepted (keeps.accepted ++ acts.accepted) stays step adds.marks_are
     (λ connected has.
     record {
       its = session connected has;
@@ -180,20 +180,22 @@ stepped first conn_steps all_connected old new number phase phase' input said no
     let sends : SendsWhatItWasHanded adds.conn_step =
     ap (λ marks. map plain (fresh_of marks)) adds.marks_are ∙ ap (map plain) (sym step.hands) ∙ same_plain (subscription_of (connected_of phase')) (sent_of step.outcomes)
     ∙ ap (λ (l : List (Outcome GroupPlace)). map plain (map (λ (h : HandOut). h.1) (sent_of l))) (sym outcomes) in
-    let discards : all_discarded (discarded_by Calls slot_of steps.between steps.mid new steps.sent phase' steps.hands) ≡ discards_of adds.conn_step.outcomes =
+    let discards : all_discarded (discarded_by Calls slot_of steps.between now steps.mid new steps.sent phase' steps.hands) ≡ discards_of adds.conn_step.outcomes =
     sym both.discards ∙ ap discards_of (sym outcomes) in
-    let light = all_of_both (λ (a : Accepted). IsLight a.message) keeps.accepted acts.accepted keeps.light (brought_light acts.accepted number input spelled acts.brought.each) in
-    let publishes = marks_short adds.conn_step.marks (λ envelope has. known_light (keeps.accepted ++ acts.accepted) envelope light (sends_known envelope has)) in
+    let light = all_of_both (λ (a : Accepted). IsLight a.message) keeps.accepted acts.accepted keeps.light (brought_light acts.accepted number now input spelled acts.brought.each) in
+    let same_publishes : publishes_in said.packets ≡ publishes_of adds.conn_step.at adds.conn_step.marks =
+    step.publishes ∙ (λ i. publishes_of (sym adds.at_is i) (sym adds.marks_are i)) in
+    let publishes = marks_short adds.conn_step.at adds.conn_step.marks (λ envelope has. known_light (keeps.accepted ++ acts.accepted) envelope light (sends_known envelope has)) in
     record {
       more = adds.conn_step ∷ [];
-      told = (record { whose = adds.whose ∙ sym its; next = adds.next_is; publishes = step.publishes ∙ ap publishes_of (sym adds.marks_are) }, tt);
+      told = (record { whose = adds.whose ∙ sym its; next = adds.next_is; publishes = same_publishes }, tt);
       short = (
         packets_short said.packets
             (kept_short said.packets (sending.sent Calls slot_of old new number now phase phase' input said.packets said.next steps))
-            (subst (AllByRecursion IsShort) (sym (step.publishes ∙ ap publishes_of (sym adds.marks_are))) publishes),
+            (subst (AllByRecursion IsShort) (sym same_publishes) publishes),
         tt,
       );
-      answers = (adds.conn_step, refl, record { whose = adds.whose; input_is = adds.input_is; next_is = adds.next_is });
+      answers = (adds.conn_step, refl, record { whose = adds.whose; at_is = adds.at_is; input_is = adds.input_is; next_is = adds.next_is });
       keeps = record {
         happenings = keeps.happenings ++ map Called step.supply_calls;
         led = joins keeps.happenings (map Called step.supply_calls) first old new keeps.led (called step.supply_calls old new step.made);
@@ -205,8 +207,9 @@ stepped first conn_steps all_connected old new number phase phase' input said no
         accepted = keeps.accepted ++ acts.accepted;
         accepts =
             accept_on conn_steps adds.conn_step keeps.accepted acts.accepted keeps.accepts
-            (subst (λ (n : ℕ). IsBrought n adds.conn_step.input acts.accepted) (sym adds.whose)
-            (subst (λ (i : Input). IsBrought number i acts.accepted) (sym adds.input_is) acts.brought));
+            (subst (λ (n : ℕ). IsBrought n adds.conn_step.at adds.conn_step.input acts.accepted) (sym adds.whose)
+            (subst (λ (m : ℕ). IsBrought number m adds.conn_step.input acts.accepted) (sym adds.at_is)
+            (subst (λ (i : Input). IsBrought number now i acts.accepted) (sym adds.input_is) acts.brought)));
         sent = λ envelope has.
             ⊎_elim
             (λ (earlier : Contains (all_sent conn_steps) envelope). stays envelope.stamp envelope.message (keeps.sent envelope earlier))
@@ -229,14 +232,16 @@ stepped first conn_steps all_connected old new number phase phase' input said no
     }
 
 pub moves : (first : Broker) (conn_steps : List ConnStep) (all_connected : Links) (old new : Broker) (number : ℕ) (client after : ClientState GroupPlace) (now : ℕ) (input : Input) (said : StepOutput)
-    → client.conn.number ≡ number → IsSpelled input → Keeps first conn_steps (with_connected all_connected number (connected_of client.conn.phase)) old
+    → client.conn.number ≡ number → client.conn.latest ≤ now → IsSpelled input → Keeps first conn_steps (with_connected all_connected number (connected_of client.conn.phase)) old
     → ClientSteps Calls slot_of old client now input said after new
-    → Says first conn_steps (said ∷ []) (IsStep number input said.next) (with_connected all_connected number (connected_of after.conn.phase)) new
-moves first conn_steps all_connected old new number client after now input said is spelled keeps moved =
-    let steps = subst (λ (n : ℕ). Steps Calls slot_of old n client.conn.phase (moment_of client now) input said.packets said.next after.conn.phase new) is moved.stepped in
+    → Says first conn_steps (said ∷ []) (IsStep number now input said.next) (with_connected all_connected number (connected_of after.conn.phase)) new
+moves first conn_steps all_connected old new number client after now input said is timely spelled keeps moved =
+    let steps =
+    subst (λ (m : ℕ). Steps Calls slot_of old number client.conn.phase m input said.packets said.next after.conn.phase new) (made_now client now timely)
+    (subst (λ (n : ℕ). Steps Calls slot_of old n client.conn.phase (moment_of client now) input said.packets said.next after.conn.phase new) is moved.stepped) in
     let sound = not_ending client.conn.phase (λ connected has. (keeps.sessions.has_connected number connected (connected_here all_connected number (connected_of client.conn.phase) ∙ has)).leads.goes_on) in
-    stepped first conn_steps all_connected old new number client.conn.phase after.conn.phase input said (moment_of client now) (moved.told ∙ is) spelled steps
-    (transcribed_with Calls slot_of old new number (moment_of client now) client.conn.phase after.conn.phase input said.packets said.next steps sound) keeps
+    stepped first conn_steps all_connected old new number client.conn.phase after.conn.phase input said now (moved.told ∙ is) spelled steps
+    (transcribed_with Calls slot_of old new number now client.conn.phase after.conn.phase input said.packets said.next steps sound) keeps
 
 -- what stands in front of a stream was read
 front_spelled : (input : Input) (unread unread' : Unread) → IsInFront unread input unread' → IsSpelled input
@@ -248,51 +253,53 @@ front_spelled inputs.Closing unread unread' front = absurd front
 
 -- what is read is stepped, packet by packet
 pub reads : (said : List StepOutput) (first : Broker) (conn_steps : List ConnStep) (all_connected : Links) (old new : Broker) (number : ℕ) (client after : ClientState GroupPlace) (now : ℕ)
-    → client.conn.number ≡ number → client.unread.fault ≡ None → Keeps first conn_steps (with_connected all_connected number (connected_of client.conn.phase)) old
+    → client.conn.number ≡ number → IsSound now (Some client) → Keeps first conn_steps (with_connected all_connected number (connected_of client.conn.phase)) old
     → Reads Calls slot_of old client now said after new
-    → Says first conn_steps said (λ more. ReadsFrom client.unread.bytes more (kept after)) (with_connected all_connected number (connected_of after.conn.phase)) new
+    → Says first conn_steps said (AllAt now (λ more. ReadsFrom client.unread.bytes more (kept after))) (with_connected all_connected number (connected_of after.conn.phase)) new
 reads [] first conn_steps all_connected old new number client after now is sound keeps read =
-    subst (λ (c : ClientState GroupPlace). Says first conn_steps [] (λ more. ReadsFrom client.unread.bytes more (kept c)) (with_connected all_connected number (connected_of c.conn.phase)) new) (sym read.1)
-    (silent first conn_steps (λ more. ReadsFrom client.unread.bytes more (kept client)) (with_connected all_connected number (connected_of client.conn.phase)) old new []
-    (client.unread.bytes, refl, left_to client.conn.phase client read.0) refl read.2 keeps)
+    subst (λ (c : ClientState GroupPlace). Says first conn_steps [] (AllAt now (λ more. ReadsFrom client.unread.bytes more (kept c))) (with_connected all_connected number (connected_of c.conn.phase)) new) (sym read.1)
+    (silent first conn_steps (AllAt now (λ more. ReadsFrom client.unread.bytes more (kept client))) (with_connected all_connected number (connected_of client.conn.phase)) old new []
+    (tt, (client.unread.bytes, refl, left_to client.conn.phase client read.0)) refl read.2 keeps)
 reads (said ∷ rest) first conn_steps all_connected old new number client after now is sound keeps (inl last) =
     let it = last.0 in
     let closed = closed_by old new client after now it.input said it.moved it.closes in
-    subst (λ (more : List StepOutput). Says first conn_steps (said ∷ more) (λ more. ReadsFrom client.unread.bytes more (kept after)) (with_connected all_connected number (connected_of after.conn.phase)) new)
+    subst (λ (more : List StepOutput). Says first conn_steps (said ∷ more) (AllAt now (λ more. ReadsFrom client.unread.bytes more (kept after))) (with_connected all_connected number (connected_of after.conn.phase)) new)
     (sym last.1)
-    (says_so first conn_steps (said ∷ []) (IsStep number it.input said.next) (λ more. ReadsFrom client.unread.bytes more (kept after))
+    (says_so first conn_steps (said ∷ []) (IsStep number now it.input said.next) (AllAt now (λ more. ReadsFrom client.unread.bytes more (kept after)))
     (with_connected all_connected number (connected_of after.conn.phase)) new
-    (λ these one. read_last number it.input said.next client.unread after.unread (kept after) these sound it.front closed one)
-    (moves first conn_steps all_connected old new number client after now it.input said is (front_spelled it.input client.unread after.unread it.front) keeps it.moved))
+    (λ these one. read_last number now it.input said.next client.unread after.unread (kept after) these sound.0 it.front closed one)
+    (moves first conn_steps all_connected old new number client after now it.input said is sound.1 (front_spelled it.input client.unread after.unread it.front) keeps it.moved))
 reads (said ∷ rest) first conn_steps all_connected old new number client after now is sound keeps (inr more) =
     let between = more.0 in
     let one = more.2 in
-    then_says first conn_steps (said ∷ []) rest (IsStep number (inputs.Packet one.packet) said.next) (λ later. ReadsFrom between.unread.bytes later (kept after))
-    (λ more. ReadsFrom client.unread.bytes more (kept after)) (with_connected all_connected number (connected_of between.conn.phase)) (with_connected all_connected number (connected_of after.conn.phase)) more.1 new
-    (λ these those conn_step later. read_first number one.packet said.next client.unread between.unread (kept after) these those one.taken one.goes conn_step later)
-    (moves first conn_steps all_connected old more.1 number client between now (inputs.Packet one.packet) said is (one.taken.front, one.taken.spelled) keeps one.moved)
-    (λ before kept. reads rest first before all_connected more.1 new number between after now (one.moved.same ∙ is) one.taken.goes_on kept more.3)
+    then_says first conn_steps (said ∷ []) rest (IsStep number now (inputs.Packet one.packet) said.next) (AllAt now (λ later. ReadsFrom between.unread.bytes later (kept after)))
+    (AllAt now (λ more. ReadsFrom client.unread.bytes more (kept after))) (with_connected all_connected number (connected_of between.conn.phase)) (with_connected all_connected number (connected_of after.conn.phase)) more.1 new
+    (λ these those conn_step later. read_first number now one.packet said.next client.unread between.unread (kept after) these those one.taken one.goes conn_step later)
+    (moves first conn_steps all_connected old more.1 number client between now (inputs.Packet one.packet) said is sound.1 (one.taken.front, one.taken.spelled) keeps one.moved)
+    (λ before kept. reads rest first before all_connected more.1 new number between after now (one.moved.same ∙ is)
+    (one.taken.goes_on, still_timely client between now sound.1 one.moved.latest) kept more.3)
 
 pub ticks : (said : List StepOutput) (first : Broker) (conn_steps : List ConnStep) (all_connected : Links) (old new : Broker) (number : ℕ) (client after : ClientState GroupPlace) (now : ℕ)
-    → client.conn.number ≡ number → client.unread.fault ≡ None → Keeps first conn_steps (with_connected all_connected number (connected_of client.conn.phase)) old
+    → client.conn.number ≡ number → IsSound now (Some client) → Keeps first conn_steps (with_connected all_connected number (connected_of client.conn.phase)) old
     → Ticks Calls slot_of old client now said after new
-    → Says first conn_steps said (λ more. TickIsAnswered (Some client) more (kept after)) (with_connected all_connected number (connected_of after.conn.phase)) new
+    → Says first conn_steps said (AllAt now (λ more. TickIsAnswered (Some client) more (kept after))) (with_connected all_connected number (connected_of after.conn.phase)) new
 ticks [] first conn_steps all_connected old new number client after now is sound keeps ticked = absurd ticked
 ticks (said ∷ rest) first conn_steps all_connected old new number client after now is sound keeps (inl last) =
     let over = stopped old new client after now inputs.Tick said last.0 last.1 in
-    subst (λ (more : List StepOutput). Says first conn_steps (said ∷ more) (λ more. TickIsAnswered (Some client) more (kept after)) (with_connected all_connected number (connected_of after.conn.phase)) new)
+    subst (λ (more : List StepOutput). Says first conn_steps (said ∷ more) (AllAt now (λ more. TickIsAnswered (Some client) more (kept after))) (with_connected all_connected number (connected_of after.conn.phase)) new)
     (sym last.2)
-    (says_so first conn_steps (said ∷ []) (IsStep number inputs.Tick said.next) (λ more. TickIsAnswered (Some client) more (kept after))
-    (with_connected all_connected number (connected_of after.conn.phase)) new (λ these one. tick_last number said.next client (kept after) these over one)
-    (moves first conn_steps all_connected old new number client after now inputs.Tick said is tt keeps last.0))
+    (says_so first conn_steps (said ∷ []) (IsStep number now inputs.Tick said.next) (AllAt now (λ more. TickIsAnswered (Some client) more (kept after)))
+    (with_connected all_connected number (connected_of after.conn.phase)) new (λ these one. tick_last number now said.next client (kept after) these over one)
+    (moves first conn_steps all_connected old new number client after now inputs.Tick said is sound.1 tt keeps last.0))
 ticks (said ∷ rest) first conn_steps all_connected old new number client after now is sound keeps (inr more) =
     let between = more.0 in
     let same = more.5 in
-    then_says first conn_steps (said ∷ []) rest (IsStep number inputs.Tick said.next) (λ later. ReadsFrom between.unread.bytes later (kept after))
-    (λ more. TickIsAnswered (Some client) more (kept after)) (with_connected all_connected number (connected_of between.conn.phase)) (with_connected all_connected number (connected_of after.conn.phase)) more.1 new
-    (λ these those conn_step later. tick_first number said.next client between (kept after) these those same more.3 conn_step later)
-    (moves first conn_steps all_connected old more.1 number client between now inputs.Tick said is tt keeps more.2)
-    (λ before kept. reads rest first before all_connected more.1 new number between after now (more.2.same ∙ is) (ap (λ (u : Unread). u.fault) same ∙ sound) kept more.4)
+    then_says first conn_steps (said ∷ []) rest (IsStep number now inputs.Tick said.next) (AllAt now (λ later. ReadsFrom between.unread.bytes later (kept after)))
+    (AllAt now (λ more. TickIsAnswered (Some client) more (kept after))) (with_connected all_connected number (connected_of between.conn.phase)) (with_connected all_connected number (connected_of after.conn.phase)) more.1 new
+    (λ these those conn_step later. tick_first number now said.next client between (kept after) these those same more.3 conn_step later)
+    (moves first conn_steps all_connected old more.1 number client between now inputs.Tick said is sound.1 tt keeps more.2)
+    (λ before kept. reads rest first before all_connected more.1 new number between after now (more.2.same ∙ is)
+    (ap (λ (u : Unread). u.fault) same ∙ sound.0, still_timely client between now sound.1 more.2.latest) kept more.4)
 
 -- a cell, after what happened to the client in it
 cell_connected : (phase : ConnPhase GroupPlace) (client : ClientState GroupPlace) → client.conn.phase ≡ phase → connected_in (Some (kept_as phase client)) ≡ connected_of phase
@@ -318,41 +325,41 @@ nobody first conn_steps said Answers all_connected number after old new nothing 
     (silent first conn_steps Answers (with_connected all_connected number None) old new said nothing none same keeps)
 
 pub receives : (result : Result (Unit {0}) NoMemory) (before after : Option (ClientState GroupPlace)) (first : Broker) (conn_steps : List ConnStep) (all_connected : Links) (number : ℕ)
-    (old new : Broker) (now : ℕ) (piece : List ℕ) (said : List StepOutput) → IsOk result → IsNumbered number before → IsUnfaulted before
+    (old new : Broker) (now : ℕ) (piece : List ℕ) (said : List StepOutput) → IsOk result → IsNumbered number before → IsSound now before
     → Keeps first conn_steps (with_connected all_connected number (connected_in (Some before))) old → Receives Calls slot_of old before now piece said result after new
-    → Says first conn_steps said (λ more. PieceIsAnswered before piece more after) (with_connected all_connected number (connected_in (Some after))) new
+    → Says first conn_steps said (AllAt now (λ more. PieceIsAnswered before piece more after)) (with_connected all_connected number (connected_in (Some after))) new
 receives (Ok done) None after first conn_steps all_connected number old new now piece said ok is sound keeps does =
-    nobody first conn_steps said (λ more. PieceIsAnswered None piece more after) all_connected number after old new refl does.0 does.1 does.2 keeps
+    nobody first conn_steps said (AllAt now (λ more. PieceIsAnswered None piece more after)) all_connected number after old new (tt, refl) does.0 does.1 does.2 keeps
 receives (Ok done) (Some client) after first conn_steps all_connected number old new now piece said ok is sound keeps does =
-    let same = fed_unread client piece sound in
-    in_cell first conn_steps said (λ more c. PieceIsAnswered (Some client) piece more c) all_connected number does.0 after new does.2
-    (says_so first conn_steps said (λ more. ReadsFrom (fed client piece).unread.bytes more (kept does.0)) (λ more. PieceIsAnswered (Some client) piece more (kept does.0))
+    let same = fed_unread client piece sound.0 in
+    in_cell first conn_steps said (λ more c. AllAt now (λ these. PieceIsAnswered (Some client) piece these c) more) all_connected number does.0 after new does.2
+    (says_so first conn_steps said (AllAt now (λ more. ReadsFrom (fed client piece).unread.bytes more (kept does.0))) (AllAt now (λ more. PieceIsAnswered (Some client) piece more (kept does.0)))
     (with_connected all_connected number (connected_of does.0.conn.phase)) new
-    (λ these from. subst (λ (u : Unread). ReadsFrom u.bytes these (kept does.0)) same from)
-    (reads said first conn_steps all_connected old new number (fed client piece) does.0 now is (ap (λ (u : Unread). u.fault) same) keeps does.1))
+    (λ these from. (from.0, subst (λ (u : Unread). ReadsFrom u.bytes these (kept does.0)) same from.1))
+    (reads said first conn_steps all_connected old new number (fed client piece) does.0 now is (ap (λ (u : Unread). u.fault) same, sound.1) keeps does.1))
 receives (Err error) before after first conn_steps all_connected number old new now piece said ok is sound keeps does = absurd (false≢true ok)
 
 pub ticks_for : (result : Result (Unit {0}) NoMemory) (before after : Option (ClientState GroupPlace)) (first : Broker) (conn_steps : List ConnStep) (all_connected : Links) (number : ℕ)
-    (old new : Broker) (now : ℕ) (said : List StepOutput) → IsOk result → IsNumbered number before → IsUnfaulted before
+    (old new : Broker) (now : ℕ) (said : List StepOutput) → IsOk result → IsNumbered number before → IsSound now before
     → Keeps first conn_steps (with_connected all_connected number (connected_in (Some before))) old → TicksFor Calls slot_of old before now said result after new
-    → Says first conn_steps said (λ more. TickIsAnswered before more after) (with_connected all_connected number (connected_in (Some after))) new
+    → Says first conn_steps said (AllAt now (λ more. TickIsAnswered before more after)) (with_connected all_connected number (connected_in (Some after))) new
 ticks_for (Ok done) None after first conn_steps all_connected number old new now said ok is sound keeps does =
-    nobody first conn_steps said (λ more. TickIsAnswered None more after) all_connected number after old new refl does.0 does.1 does.2 keeps
+    nobody first conn_steps said (AllAt now (λ more. TickIsAnswered None more after)) all_connected number after old new (tt, refl) does.0 does.1 does.2 keeps
 ticks_for (Ok done) (Some client) after first conn_steps all_connected number old new now said ok is sound keeps does =
-    in_cell first conn_steps said (λ more c. TickIsAnswered (Some client) more c) all_connected number does.0 after new does.2
+    in_cell first conn_steps said (λ more c. AllAt now (λ these. TickIsAnswered (Some client) these c) more) all_connected number does.0 after new does.2
     (ticks said first conn_steps all_connected old new number client does.0 now is sound keeps does.1)
 ticks_for (Err error) before after first conn_steps all_connected number old new now said ok is sound keeps does = absurd (false≢true ok)
 
 pub ends_for : (result : Result (Unit {0}) NoMemory) (before after : Option (ClientState GroupPlace)) (first : Broker) (conn_steps : List ConnStep) (all_connected : Links) (number : ℕ)
-    (old new : Broker) (now : ℕ) (input : Input) (said : List StepOutput) → IsOk result → IsSpelled input → IsNumbered number before
+    (old new : Broker) (now : ℕ) (input : Input) (said : List StepOutput) → IsOk result → IsSpelled input → IsNumbered number before → IsSound now before
     → Keeps first conn_steps (with_connected all_connected number (connected_in (Some before))) old → EndsFor Calls slot_of old before now input said result after new
-    → Says first conn_steps said (EndsSteps number input before) (with_connected all_connected number (connected_in (Some after))) new
-ends_for (Ok done) None after first conn_steps all_connected number old new now input said ok spelled is keeps does =
-    nobody first conn_steps said (EndsSteps number input None) all_connected number after old new refl does.0 does.1 does.2 keeps
-ends_for (Ok done) (Some client) after first conn_steps all_connected number old new now input said ok spelled is keeps does =
-    in_cell first conn_steps said (λ more c. EndsSteps number input (Some client) more) all_connected number does.0 after new does.2
-    (subst (λ (s : List StepOutput). Says first conn_steps s (EndsSteps number input (Some client)) (with_connected all_connected number (connected_of does.0.conn.phase)) new) (sym does.1.1)
-    (says_so first conn_steps (does.1.0 ∷ []) (IsStep number input does.1.0.next) (EndsSteps number input (Some client)) (with_connected all_connected number (connected_of does.0.conn.phase)) new
-    (λ these one. one_ends number input does.1.0.next client these one)
-    (moves first conn_steps all_connected old new number client does.0 now input does.1.0 is spelled keeps does.1.2)))
-ends_for (Err error) before after first conn_steps all_connected number old new now input said ok spelled is keeps does = absurd (false≢true ok)
+    → Says first conn_steps said (AllAt now (EndsSteps number input before)) (with_connected all_connected number (connected_in (Some after))) new
+ends_for (Ok done) None after first conn_steps all_connected number old new now input said ok spelled is sound keeps does =
+    nobody first conn_steps said (AllAt now (EndsSteps number input None)) all_connected number after old new (tt, refl) does.0 does.1 does.2 keeps
+ends_for (Ok done) (Some client) after first conn_steps all_connected number old new now input said ok spelled is sound keeps does =
+    in_cell first conn_steps said (λ more c. AllAt now (EndsSteps number input (Some client)) more) all_connected number does.0 after new does.2
+    (subst (λ (s : List StepOutput). Says first conn_steps s (AllAt now (EndsSteps number input (Some client))) (with_connected all_connected number (connected_of does.0.conn.phase)) new) (sym does.1.1)
+    (says_so first conn_steps (does.1.0 ∷ []) (IsStep number now input does.1.0.next) (AllAt now (EndsSteps number input (Some client))) (with_connected all_connected number (connected_of does.0.conn.phase)) new
+    (λ these one. one_ends number now input does.1.0.next client these one)
+    (moves first conn_steps all_connected old new number client does.0 now input does.1.0 is sound.1 spelled keeps does.1.2)))
+ends_for (Err error) before after first conn_steps all_connected number old new now input said ok spelled is sound keeps does = absurd (false≢true ok)

@@ -55,24 +55,24 @@ accepted_in_all events = filter_map accepted_in events
 abbrev pub accepted_seen_by : ℕ → Accepted → Option ℕ
 accepted_seen_by slot accepted = if nat_eq accepted.group slot then Some accepted.port else None
 
--- it is the message of the PUBLISH that came in, through the port of its connection
-pub record IsBroughtBy (connection : ℕ) (input : Input) (accepted : Accepted) : Type 0 where
+-- it is the message of the PUBLISH that came in at this moment, through the port of its connection
+pub record IsBroughtBy (connection now : ℕ) (input : Input) (accepted : Accepted) : Type 0 where
   pub publish : Publish
   pub came : input ≡ inputs.Packet (packets.Publish publish)
-  pub message : accepted.message ≡ message_of publish
+  pub message : accepted.message ≡ message_of now publish
   pub port : accepted.port ≡ connection
   pub group : accepted.group < 8
 
 -- these were accepted in one step: the message that came, once by each of some groups, in the order of their slots
-pub record IsBrought (connection : ℕ) (input : Input) (accepted : List Accepted) : Type 0 where
-  pub each : AllByRecursion (IsBroughtBy connection input) accepted
+pub record IsBrought (connection now : ℕ) (input : Input) (accepted : List Accepted) : Type 0 where
+  pub each : AllByRecursion (IsBroughtBy connection now input) accepted
   pub ordered : AllPairs (λ one other. one.group < other.group) accepted
 
 -- what is accepted in these steps, in their order
 abbrev pub AllAccept : List ConnStep → List Accepted → Type 0
 AllAccept [] accepted = accepted ≡ []
 AllAccept (conn_step ∷ conn_steps) accepted =
-    (now later : List Accepted) × IsBrought conn_step.connection conn_step.input now × AllAccept conn_steps later × (accepted ≡ now ++ later)
+    (these later : List Accepted) × IsBrought conn_step.connection conn_step.at conn_step.input these × AllAccept conn_steps later × (accepted ≡ these ++ later)
 
 -- what steps send, for the first time and again
 abbrev pub sent_in : Mark Held → Option Held

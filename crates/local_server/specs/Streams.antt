@@ -14,7 +14,7 @@ use Rattle.local_server.specs.declared.event.ServerEvent.TheVariants as events
 use Rattle.local_server.specs.declared.event.TimedEvent.{TimedEvent}
 use Rattle.local_server.specs.Servers.{Clients, ServerState}
 use Rattle.local_server.specs.Happening.{HappensAll}
-use Rattle.local_server.specs.ConnSteps.{ConnStep, AllTell, conn_steps_of}
+use Rattle.local_server.specs.ConnSteps.{ConnStep, AllTell, AreMadeAt, conn_steps_of}
 
 -- the packet that stands in front of a stream, or the fault, and what is left of the stream after it
 abbrev pub StandsInFront : Input → List ℕ → List ℕ → Type 0
@@ -75,11 +75,11 @@ abbrev pub EventIsAnsweredIf : Bool → ServerEvent → Clients → List ConnSte
 EventIsAnsweredIf true event old conn_steps new = EventIsAnswered event old conn_steps new
 EventIsAnsweredIf false event old conn_steps new = conn_steps ≡ []
 
--- the steps of a run answer what came in its events, one event after the other: each has those that were taken in it
+-- the steps of a run answer what came in its events, one event after the other: each has those that were taken in it, at the moment of the server's clock then
 abbrev pub AllAreAnswered : (old : ServerState) (events : List TimedEvent) (said : List StepOutput) (new : ServerState) → HappensAll old events said new → List ConnStep → Type 0
 AllAreAnswered old [] said new run conn_steps = conn_steps ≡ []
 AllAreAnswered old (first ∷ others) said new run conn_steps =
     let mid = run.0 in
     let now = run.1 in
-    (these later : List ConnStep) × AllTell now these × EventIsAnsweredIf (is_open old.broker) first.event old.clients these mid.clients × AllAreAnswered mid others run.2 new run.4 later
-    × (conn_steps ≡ these ++ later)
+    (these later : List ConnStep) × AllTell now these × AreMadeAt mid.clock these × EventIsAnsweredIf (is_open old.broker) first.event old.clients these mid.clients
+    × AllAreAnswered mid others run.2 new run.4 later × (conn_steps ≡ these ++ later)

@@ -26,7 +26,7 @@ use Rattle.local_broker.specs.Broker.{is_open}
 use Rattle.local_server.specs.declared.event.TimedEvent.{TimedEvent}
 use Rattle.local_server.specs.Servers.{Clients, ServerState}
 use Rattle.local_server.specs.Happening.{HappensAll}
-use Rattle.local_server.specs.ConnSteps.{ConnStep, AllTell, conn_steps_of}
+use Rattle.local_server.specs.ConnSteps.{ConnStep, AllTell, AreMadeAt, conn_steps_of}
 use Rattle.local_server.specs.Streams.{EventIsAnsweredIf, AllAreAnswered}
 
 -- the transcript of the session with this number: its marks, over however many connections
@@ -152,13 +152,13 @@ pub record KeepsTranscripts (first : ServerState) (events : List TimedEvent) (sa
   pub conn_steps : List ConnStep
   -- each step, with the PUBLISH packets that it wrote
   pub told : AllTell said conn_steps
-  -- they answer what came
+  -- they answer what came, each at its moment
   pub came : AllAreAnswered first events said last run conn_steps
   -- and they led the server to where it is
   pub account : AccountFor conn_steps last
 
 -- Along a run, from a server that these steps led to where it is: each event adds the steps of its own steps after those before, of which none
--- is told anew, and they answer what came in it; and at each moment, before the first event and after each one, the steps till then led the server to where it is.
+-- is told anew, they were made at the moment of the server's clock then, and they answer what came in it; and at each moment, before the first event and after each one, the steps till then led the server to where it is.
 abbrev pub AccountAlong : (conn_steps : List ConnStep) (old : ServerState) (events : List TimedEvent) (said : List StepOutput) (new : ServerState) → HappensAll old events said new → Type 0
 AccountAlong conn_steps old [] said new run = AccountFor conn_steps old
 AccountAlong conn_steps old (first ∷ others) said new run =
@@ -166,5 +166,5 @@ AccountAlong conn_steps old (first ∷ others) said new run =
     let now = run.1 in
     let later = run.2 in
     AccountFor conn_steps old
-    × (more : List ConnStep) × AllTell now more × EventIsAnsweredIf (is_open old.broker) first.event old.clients more mid.clients
+    × (more : List ConnStep) × AllTell now more × AreMadeAt mid.clock more × EventIsAnsweredIf (is_open old.broker) first.event old.clients more mid.clients
     × AccountAlong (conn_steps ++ more) mid others later new run.4

@@ -55,8 +55,10 @@ pub fn running_law()
 {}
 
 /// **What is handed out is what is sent**, in every run: the messages of the PUBLISH packets with DUP 0 that the clients are told of are,
-/// in order, those that places were handed, and the hand-outs that a group's events tell are those to its places, in the same order. So
-/// each goes out with DUP 0 as often as it was handed out: once, and once more for each time that it was given back and handed out again.
+/// in order, those that places were handed, but for those that were discarded, each with its topic, its properties and its payload; and the
+/// hand-outs that a group's events tell are those to its places, in the same order. So each goes out with DUP 0 as often as it was handed out and not
+/// discarded: once, and once more for each time that it was given back and handed out again. What is left of its Message Expiry Interval, and its
+/// Subscription Identifier, the transcripts tell (`transcript_law`).
 /// The runs are those in which no allocation failed.
 pub fn hand_out_law()
     ensures { (setup : Setup) (events : List TimedEvent) (said : List StepOutput) (first last : ServerState) →
@@ -64,7 +66,8 @@ pub fn hand_out_law()
 {}
 
 /// **The transcript of each session is legal, along every run** (sections 4.4 and 4.9), over however many connections the session is resumed
-/// and taken over: each step adds its marks to the transcript of its connection's session, and its PUBLISH packets are those of these marks
+/// and taken over: each step adds its marks to the transcript of its connection's session, and its PUBLISH packets are those of these marks, each
+/// with what is left of its message's interval at the moment of the step (section 3.3.2.3.3), which is that of the server's clock in its event
 /// (`whole`). It is so at each moment, before and after each event, with one list of steps, to which each event adds after those before (`along`);
 /// and the steps of an event answer what comes in it: a client's stream is read packet by packet, each answered by a step, and a Tick, the
 /// end of the input and the close by one each.
@@ -105,7 +108,8 @@ pub fn settling_law()
 /// **What is sent is what was accepted**, along every run (sections 3.3, 4.3.2 and 4.4): each PUBLISH packet that a session is sent, with DUP 0 or 1, is
 /// the message that its group accepted under its stamp: of the messages that the group accepted through the stamp's port, the one in the
 /// place that the stamp's number says. And what the groups accepted, as their events tell, is in order the messages of the PUBLISH packets that came:
-/// each through the port of the connection that it came from, and once by each of some groups. The runs are those in which no allocation failed.
+/// each with the moment of the step in which it came, from which its interval counts (section 3.3.2.3.3), through the port of the connection that it came
+/// from, and once by each of some groups. The runs are those in which no allocation failed.
 pub fn message_law()
     ensures { (setup : Setup) (events : List TimedEvent) (said : List StepOutput) (first last : ServerState) →
         IsNewServer setup first → (run : HappensAll first events said last) → SendsWhatWasAccepted first events said last run }

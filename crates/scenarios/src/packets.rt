@@ -117,7 +117,7 @@ pub(crate) const SCENARIOS: [Scenario<'static>; 11] = [
 > 0 close
 ",
     },
-    // What is forwarded stands in rising order; an expiry is refused.
+    // What is forwarded stands in rising order.
     Scenario {
         name: "properties",
         capacity: 1_024,
@@ -131,11 +131,12 @@ pub(crate) const SCENARIOS: [Scenario<'static>; 11] = [
 0 bytes 0 321400036A6F6200070B2600016B0001760300016141
 > 0 40020007
 > 0 321400036a6f6200010b030001612600016b00017641
-0 bytes 0 320E00036A6F62000705020000000A41
-> 0 4003000783
+0 bytes 0 321400036A6F6200080B03000161020000000A010141
+> 0 40020008
+> 0 321400036a6f6200020b0101020000000a0300016141
 0 end 0
 > 0 close
-> $share/g/job accepted 1 acknowledged 0 refused 0 held 0 queued 0 returned 1 discarded 0
+> $share/g/job accepted 2 acknowledged 0 refused 0 held 0 queued 0 returned 2 discarded 0
 ",
     },
     // A stream in pieces, several packets in one, and a number that is opened again.

@@ -73,18 +73,17 @@ module _ (solo : SoloState) (connected : ConnectedClient GroupPlace) (old : Brok
       }
 
   -- ---- a PUBLISH
-  publishes : (publish : Publish) (answer : PublishAnswer) (connected' : ConnectedClient GroupPlace) (reply : ConnReply) (new : Broker) → connected' ≡ connected → AnswersPublish Calls old 0 publish answer reply new
+  publishes : (publish : Publish) (answer : PublishAnswer) (connected' : ConnectedClient GroupPlace) (reply : ConnReply) (new : Broker) → connected' ≡ connected → AnswersPublish Calls old 0 0 publish answer reply new
       → Answered (publish_reply_as answer publish solo) connected' reply new
   publishes publish (publishing.Close code) connected' reply new same does = closes _ connected' reply new same does.0 does.1
-  publishes publish (publishing.Refuse identifier code) connected' reply new same does = goes _ connected' reply new same does.0 does.1
   publishes publish (publishing.Offer identifier) connected' reply new same does =
       let slots : does.slots ≡ matching publish.topic solo = does.matched.0 ∙ ap (λ (l : List Share). places_of 0 (routed publish.topic l)) shows.session.broker.routes in
       let start : ShowsBroker solo connected.session.window.owed does.mid = subst (ShowsBroker solo connected.session.window.owed) (sym does.matched.1) shows.session.broker in
       let all =
-      offers (matching publish.topic solo) (message_of publish) solo connected.session.window.owed does.mid new does.taken start (matching_below publish.topic solo)
-      (subst (λ (l : List ℕ). Offers Calls does.mid 0 (message_of publish) l does.taken new) slots does.offered) in
-      let keeps = offer_keeps (matching publish.topic solo) (message_of publish) solo in
-      let behind = (offer_to (matching publish.topic solo) (message_of publish) solo).solo in
+      offers (matching publish.topic solo) (message_of 0 publish) solo connected.session.window.owed does.mid new does.taken start (matching_below publish.topic solo)
+      (subst (λ (l : List ℕ). Offers Calls does.mid 0 (message_of 0 publish) l does.taken new) slots does.offered) in
+      let keeps = offer_keeps (matching publish.topic solo) (message_of 0 publish) solo in
+      let behind = (offer_to (matching publish.topic solo) (message_of 0 publish) solo).solo in
       let session : ShowsSession behind connected.session new =
       session_kept solo behind connected.session old new keeps all.shows (all.desk ∙ ap (λ (b : Broker). b.desk) does.matched.1) shows.session in
       let now : ShowsClient behind connected new = record { session = session; terms = shows.terms ∙ sym keeps.same.terms; phase = keeps.same.phase ∙ shows.phase } in
@@ -219,7 +218,7 @@ module _ (solo : SoloState) (connected : ConnectedClient GroupPlace) (old : Brok
   disconnects (Some seconds) connected' reply new does still =
       disconnects_if (is_given_expiry seconds connected.terms) seconds connected' reply new (ap (is_given_expiry seconds) (sym shows.terms)) does still
 
-  pub answers : (packet : Packet) (connected' : ConnectedClient GroupPlace) (reply : ConnReply) (new : Broker) → Answers Calls slot_at old 0 connected packet connected' reply new → Answered (later_reply packet solo) connected' reply new
+  pub answers : (packet : Packet) (connected' : ConnectedClient GroupPlace) (reply : ConnReply) (new : Broker) → Answers Calls slot_at old 0 connected 0 packet connected' reply new → Answered (later_reply packet solo) connected' reply new
   answers (packets.Publish publish) connected' reply new does = publishes publish (publish_answer publish) connected' reply new does.1 does.0
   answers (packets.Puback puback) connected' reply new (session, acks, has_connected, is) =
       let identifier = puback.packet_identifier in

@@ -19,9 +19,9 @@ use Rattle.local_broker.specs.Places.{GroupPlace}
 use Rattle.local_broker.specs.Broker.{Broker}
 use Rattle.local_broker.specs.Calls.{Calls}
 use Rattle.solo_output.specs.Groups.{SoloState, Phase, unacknowledged, waiting_in, with_membership}
-use Rattle.solo_output.specs.HandOuts.{SoloStep, hand_out, sends_nothing, left_with, deliver_to, deliver_in, deliver}
+use Rattle.solo_output.specs.HandOuts.{SoloStep, terms_in, hand_out, sends_nothing, left_with, deliver_to, deliver_in, deliver}
 use Rattle.solo_output.proofs.Brokers.{entries_at, entries_none}
-use Rattle.solo_output.proofs.Hands.{first_place, sent_under, sends_fresh}
+use Rattle.solo_output.proofs.Hands.{first_place, sends_fresh}
 use Rattle.solo_output.proofs.Desks.{ShowsDesk, takes}
 use Rattle.solo_output.proofs.Sessions.{placed, Idles, IsLentAs, ShowsClient, hand_out_keeps, broker_as, window_as, broker_moved}
 
@@ -31,9 +31,9 @@ pub record Delivered (solo_step : SoloStep) (connected : ConnectedClient GroupPl
   pub shows : ShowsClient solo_step.solo (after_hand_out connected membership window) new
 
 -- nothing waits to be sent again
-none_again : (packets : List Packet) (old new : Contents Held) → old.waiting ≡ [] → SendsAgain old packets new → (packets ≡ []) × (new ≡ old)
-none_again [] old new none does = (refl, does.1)
-none_again (packet ∷ packets) old new none does = let e = sym none ∙ does.1.1.1 in absurd (cc)
+none_again : (packets : List Packet) (now : ℕ) (old new : Contents Held) → old.waiting ≡ [] → SendsAgain now old packets new → (packets ≡ []) × (new ≡ old)
+none_again [] now old new none does = (refl, does.1)
+none_again (packet ∷ packets) now old new none does = let e = sym none ∙ does.1.1.1 in absurd (cc)
 
 pub all_owed : (w : Contents Held) → w.waiting ≡ [] → held_of w ≡ w.owed
 all_owed w none = ap (λ (l : List (ℕ × Held)). w.owed ++ l) none ∙ append-nil w.owed
@@ -99,7 +99,7 @@ module _ (solo : SoloState) (connected : ConnectedClient GroupPlace) (old : Brok
       (as_it_is [] membership window new refl (does.1 ∙ sym (shows.session.member ∙ ap placed is)) kept does.2)
 
   hands : (own : Membership ℕ) → solo.membership ≡ own → (fresh : List Packet) (membership : Membership GroupPlace) (window : Contents Held) (new : Broker)
-      → HandsFresh Calls (sent_under solo) old (placed own) connected.session.window fresh membership window new → Delivered (deliver_to own solo) connected fresh membership window new
+      → HandsFresh Calls (terms_in solo) old (placed own) connected.session.window fresh membership window new → Delivered (deliver_to own solo) connected fresh membership window new
   hands NotMember is fresh membership window new does = as_it_is fresh membership window new does.0 (does.1 ∙ sym (shows.session.member ∙ ap placed is)) does.2 does.3
   hands (Member slot) is fresh membership window new (place', as_, does) =
       let got = sends_fresh fresh slot solo is connected.session.window old shows.session.broker shows.session.window place' window new does in
@@ -127,15 +127,15 @@ module _ (solo : SoloState) (connected : ConnectedClient GroupPlace) (old : Brok
   hands (Leaving slot) is fresh membership window new does =
       subst (λ (l : List Packet). Delivered (deliver_to (Leaving slot) solo) connected l membership window new) (sym does.0) (leaves slot is membership window new does.1 does.2)
 
-  pub delivers : (sent : List Packet) (membership : Membership GroupPlace) (window : Contents Held) (new : Broker) → HandsOut Calls (hand_out_terms connected) old connected.session.membership connected.session.window sent membership window new
+  pub delivers : (sent : List Packet) (membership : Membership GroupPlace) (window : Contents Held) (new : Broker) → HandsOut Calls (hand_out_terms connected 0) old connected.session.membership connected.session.window sent membership window new
       → Delivered (deliver solo) connected sent membership window new
   delivers sent membership window new does =
-      let again = none_again does.again connected.session.window does.between shows.session.window.none_waits does.sent_again in
+      let again = none_again does.again 0 connected.session.window does.between shows.session.window.none_waits does.sent_again in
       let all_fresh : sent ≡ does.fresh = does.both ∙ ap (λ (l : List Packet). l ++ does.fresh) again.0 in
-      let its = subst (λ (w : Contents Held). HandsFresh Calls (hand_out_terms connected) old connected.session.membership w does.fresh membership window new) again.1 does.sent_fresh in
-      let terms : hand_out_terms connected ≡ sent_under solo = λ i. record { subscription = shows.session.subscribed i; maximum_packet_size = (shows.terms i).maximum_packet_size } in
+      let its = subst (λ (w : Contents Held). HandsFresh Calls (hand_out_terms connected 0) old connected.session.membership w does.fresh membership window new) again.1 does.sent_fresh in
+      let terms : hand_out_terms connected 0 ≡ terms_in solo = λ i. record { at = 0; subscription = shows.session.subscribed i; maximum_packet_size = (shows.terms i).maximum_packet_size } in
       let under = subst (λ (s : HandOutTerms). HandsFresh Calls s old connected.session.membership connected.session.window does.fresh membership window new) terms its in
-      let own = subst (λ (m : Membership GroupPlace). HandsFresh Calls (sent_under solo) old m connected.session.window does.fresh membership window new) shows.session.member under in
+      let own = subst (λ (m : Membership GroupPlace). HandsFresh Calls (terms_in solo) old m connected.session.window does.fresh membership window new) shows.session.member under in
       let got = hands solo.membership refl does.fresh membership window new own in
       subst (λ (p : Phase). Delivered (deliver_in p solo) connected sent membership window new) (sym shows.phase)
       (subst (λ (l : List Packet). Delivered (deliver_to solo.membership solo) connected l membership window new) (sym all_fresh) got)

@@ -13,6 +13,7 @@ use Rattle.member_window.specs.Contents.{Contents, held_of, HasRoom, after_put}
 use Rattle.session_desk.specs.declared.session.Membership.{Membership}
 use Rattle.session_desk.specs.declared.session.Membership.TheVariants.{Member}
 use Rattle.conn_rules.specs.declared.hand_outs.HandOutTerms.{HandOutTerms}
+use Rattle.conn_rules.specs.HandOuts.{is_discarded}
 use Rattle.conn_rules.specs.Packets.{job}
 use Rattle.conn_rules.specs.Setups.{most_capacity}
 use Rattle.conn_supply.specs.SupplyCalls.SupplyCall.{Take, TakeBack, Settle}
@@ -24,7 +25,7 @@ use Rattle.local_broker.specs.Broker.{Broker}
 use Rattle.local_broker.specs.Calls.{Calls}
 use Rattle.solo_output.specs.Groups.{SoloState, HandOut, accepted_in, handed_in, waiting_in, unacknowledged, with_hand_out}
 use Rattle.solo_output.specs.Groups.Outcome.{Unacknowledged, Discarded}
-use Rattle.solo_output.specs.HandOuts.{SoloStep, quota, has_room, least_free, is_unfit, outcome_of, packets_unless, next_hand_out, sent_before, hand_out}
+use Rattle.solo_output.specs.HandOuts.{SoloStep, quota, has_room, least_free, terms_in, outcome_of, packets_unless, next_hand_out, sent_before, hand_out}
 use Rattle.solo_output.proofs.Groups.{ShowsGroup, messages_in, none_back, none_waits, few_wait, handed_one, discarded_at_once}
 use Rattle.solo_output.proofs.Identifiers.{least_is}
 use Rattle.solo_output.proofs.Lists.{handed, open_push, open_discarded, handed_in_push_same, handed_in_push_other}
@@ -41,10 +42,6 @@ pub record ShowsWindow (solo : SoloState) (w : Contents Held) : Type 0 where
 -- the one place of a group that is ever lent
 abbrev pub first_place : ℕ → GroupPlace
 first_place slot = record { slot = slot; number = 0 }
-
--- what the client is sent its messages under
-abbrev pub sent_under : SoloState → HandOutTerms
-sent_under solo = record { subscription = solo.subscription; maximum_packet_size = solo.terms.maximum_packet_size }
 
 -- what a step comes to
 pub record Delivers (solo_step : SoloStep) (slot : ℕ) (old : Broker) (packets : List Packet) (place' : GroupPlace) (window' : Contents Held) (new : Broker) : Type 0 where
@@ -119,7 +116,7 @@ module _ (slot : ℕ) (solo : SoloState) (member : solo.membership ≡ Member sl
         call.2.desk ∙ back.2.desk,
       )
 
-  found_none : (new : Broker) (place' : GroupPlace) → Finds Calls (sent_under solo) old (first_place slot) None place' new
+  found_none : (new : Broker) (place' : GroupPlace) → Finds Calls (terms_in solo) old (first_place slot) None place' new
       → (waiting_in slot solo ≡ []) × ShowsBroker solo window.owed new × (place' ≡ first_place slot) × (new.desk ≡ old.desk)
   found_none new place' (inl (allowed, inl found)) = absurd (none-some found.0 found.1)
   found_none new place' (inl (allowed, inr asked)) =
@@ -236,7 +233,7 @@ pub record Passes (slot : ℕ) (solo : SoloState) (w : Contents Held) (many : �
   pub later : SoloState
   pub same : hand_out slot (waiting_in slot solo) solo ≡ hand_out slot (waiting_in slot later) later
   pub member : later.membership ≡ Member slot
-  pub terms : sent_under later ≡ sent_under solo
+  pub terms : terms_in later ≡ terms_in solo
   pub shows : ShowsBroker later w.owed mid
   pub holds : ShowsWindow later w
   pub place : place' ≡ first_place slot
@@ -245,7 +242,7 @@ pub record Passes (slot : ℕ) (solo : SoloState) (w : Contents Held) (many : �
   pub few : many ≤ most_capacity
 
 discards_one : (slot : ℕ) (solo : SoloState) → solo.membership ≡ Member slot → (window : Contents Held) → HasRoom window → (old : Broker) → ShowsBroker solo window.owed old → ShowsWindow solo window
-    → (envelope : Held) (place' : GroupPlace) (mid : Broker) → DiscardsOne Calls (sent_under solo) old (first_place slot) envelope place' mid
+    → (envelope : Held) (place' : GroupPlace) (mid : Broker) → DiscardsOne Calls (terms_in solo) old (first_place slot) envelope place' mid
     → (messages : List Message) × (waiting_in slot solo ≡ envelope.message ∷ messages) × (length (waiting_in slot solo) ≤ most_capacity)
     × ShowsBroker (with_hand_out (next_hand_out slot envelope.message solo) solo) window.owed mid × ShowsWindow (with_hand_out (next_hand_out slot envelope.message solo) solo) window
     × (hand_out slot (waiting_in slot solo) solo ≡ hand_out slot messages (with_hand_out (next_hand_out slot envelope.message solo) solo))
@@ -253,8 +250,8 @@ discards_one : (slot : ℕ) (solo : SoloState) → solo.membership ≡ Member sl
 discards_one slot solo member window room old shows holds envelope place' mid does =
     let next = least_free (unacknowledged solo) in
     let got = discards_found slot solo member window old shows holds envelope does.taken place' does.mid mid does.asked does.settled in
-    let unfit : is_unfit envelope.message solo ≡ true = does.unfit in
-    let one : next_hand_out slot envelope.message solo ≡ handed slot solo.subscription next Discarded = ap (λ b. handed slot solo.subscription next (outcome_of b)) unfit in
+    let discarded : is_discarded (terms_in solo) envelope.message ≡ true = does.unfit in
+    let one : next_hand_out slot envelope.message solo ≡ handed slot solo.subscription next Discarded = ap (λ b. handed slot solo.subscription next (outcome_of b)) discarded in
     let later = with_hand_out (next_hand_out slot envelope.message solo) solo in (
       got.0,
       got.1,
@@ -263,13 +260,13 @@ discards_one slot solo member window room old shows holds envelope place' mid do
       subst (λ (h : HandOut). ShowsWindow (with_hand_out h solo) window) (sym one)
           (record { none_waits = holds.none_waits; quota_is = holds.quota_is; opens = open_discarded solo.handed_out slot solo.subscription next ∙ holds.opens; not_ending = holds.not_ending }),
       ap (λ (l : List Message). hand_out slot l solo) got.1 ∙ next_out slot envelope.message got.0 solo (has_quota solo window holds room)
-          ∙ ap (λ b. sent_before (packets_unless b (job false envelope.message solo.subscription next)) (hand_out slot got.0 later)) unfit,
+          ∙ ap (λ b. sent_before (packets_unless b (job 0 false envelope.message solo.subscription next)) (hand_out slot got.0 later)) discarded,
       got.4,
       got.5,
     )
 
 discards_all : (envelopes : List Held) (slot : ℕ) (solo : SoloState) → solo.membership ≡ Member slot → (window : Contents Held) → HasRoom window → (old : Broker) → ShowsBroker solo window.owed old → ShowsWindow solo window
-    → (place' : GroupPlace) (mid : Broker) → Discards Calls (sent_under solo) old (first_place slot) envelopes place' mid → Passes slot solo window (length envelopes) old place' mid
+    → (place' : GroupPlace) (mid : Broker) → Discards Calls (terms_in solo) old (first_place slot) envelopes place' mid → Passes slot solo window (length envelopes) old place' mid
 discards_all [] slot solo member window room old shows holds place' mid does =
     record {
       later = solo;
@@ -286,7 +283,7 @@ discards_all [] slot solo member window room old shows holds place' mid does =
 discards_all (envelope ∷ envelopes) slot solo member window room old shows holds place' mid (between, first', one, rest) =
     let got = discards_one slot solo member window room old shows holds envelope between first' one in
     let next = with_hand_out (next_hand_out slot envelope.message solo) solo in
-    let goes_on = subst (λ (p : GroupPlace). Discards Calls (sent_under solo) first' p envelopes place' mid) got.6 rest in
+    let goes_on = subst (λ (p : GroupPlace). Discards Calls (terms_in solo) first' p envelopes place' mid) got.6 rest in
     let passes = discards_all envelopes slot next member window room first' got.3 got.4 place' mid goes_on in
     let waits : waiting_in slot next ≡ got.0 = waiting_behind (next_hand_out slot envelope.message solo) solo envelope.message got.0 got.1 in
     let fewer : length envelopes + 1 ≤ length (waiting_in slot solo) = omega (arith, passes.fewer, ap length waits, ap length got.1) in
@@ -305,7 +302,7 @@ discards_all (envelope ∷ envelopes) slot solo member window room old shows hol
 
 -- nothing goes out any more
 sends_none : (slot : ℕ) (solo : SoloState) → solo.membership ≡ Member slot → (window : Contents Held) (old : Broker) → ShowsBroker solo window.owed old → ShowsWindow solo window
-    → (new : Broker) (window' : Contents Held) (place' : GroupPlace) → SendsNone Calls (sent_under solo) old (first_place slot) window place' window' new
+    → (new : Broker) (window' : Contents Held) (place' : GroupPlace) → SendsNone Calls (terms_in solo) old (first_place slot) window place' window' new
     → Delivers (hand_out slot (waiting_in slot solo) solo) slot old [] place' window' new
 sends_none slot solo member window old shows holds new window' place' (kept, inl full) =
     subst (λ (s : SoloStep). Delivers s slot old [] place' window' new) (sym (full_out slot (waiting_in slot solo) solo (no_quota solo window holds full.0)))
@@ -322,7 +319,7 @@ sends_none slot solo member window old shows holds new window' place' (kept, inr
     ⊎_elim
     (λ few.
     let found = subst (λ (t : HandOutTerms). Finds Calls t looks.mid (first_place slot) None place' new) (sym passes.terms)
-    (subst (λ (p : GroupPlace). Finds Calls (sent_under solo) looks.mid p None place' new) passes.place few.1) in
+    (subst (λ (p : GroupPlace). Finds Calls (terms_in solo) looks.mid p None place' new) passes.place few.1) in
     let got = found_none slot later passes.member window looks.mid passes.shows passes.holds new place' found in
     subst (λ (s : SoloStep). Delivers s slot old [] place' window' new) (sym (passes.same ∙ ap (λ (l : List Message). hand_out slot l later) got.0))
     (record {
@@ -340,14 +337,14 @@ pub record SentOne (slot : ℕ) (solo : SoloState) (old : Broker) (packet : Pack
   pub later : SoloState
   pub same : hand_out slot (waiting_in slot solo) solo ≡ sent_before (packet ∷ []) (hand_out slot (waiting_in slot later) later)
   pub member : later.membership ≡ Member slot
-  pub terms : sent_under later ≡ sent_under solo
+  pub terms : terms_in later ≡ terms_in solo
   pub shows : ShowsBroker later window'.owed mid
   pub holds : ShowsWindow later window'
   pub place : place' ≡ first_place slot
   pub desk : mid.desk ≡ old.desk
 
 sends_one : (slot : ℕ) (solo : SoloState) → solo.membership ≡ Member slot → (window : Contents Held) (old : Broker) → ShowsBroker solo window.owed old → ShowsWindow solo window
-    → (packet : Packet) (mid : Broker) (window' : Contents Held) (place' : GroupPlace) → SendsOne Calls (sent_under solo) old (first_place slot) window packet place' window' mid
+    → (packet : Packet) (mid : Broker) (window' : Contents Held) (place' : GroupPlace) → SendsOne Calls (terms_in solo) old (first_place slot) window packet place' window' mid
     → SentOne slot solo old packet place' window' mid
 sends_one slot solo member window old shows holds packet mid window' place' does =
     let looks = does.found in
@@ -356,11 +353,11 @@ sends_one slot solo member window old shows holds packet mid window' place' does
     (λ few.
     found_it looks.mid passes
     (subst (λ (t : HandOutTerms). Finds Calls t looks.mid (first_place slot) (Some does.envelope) place' mid) (sym passes.terms)
-    (subst (λ (p : GroupPlace). Finds Calls (sent_under solo) looks.mid p (Some does.envelope) place' mid) passes.place few.1)))
+    (subst (λ (p : GroupPlace). Finds Calls (terms_in solo) looks.mid p (Some does.envelope) place' mid) passes.place few.1)))
     (λ most. let never = most.1 in absurd (cc))
     looks.ended
   where
-    found_it : {many : ℕ} {between : GroupPlace} (begun : Broker) (passes : Passes slot solo window many old between begun) → Finds Calls (sent_under passes.later) begun (first_place slot) (Some does.envelope) place' mid → SentOne slot solo old packet place' window' mid
+    found_it : {many : ℕ} {between : GroupPlace} (begun : Broker) (passes : Passes slot solo window many old between begun) → Finds Calls (terms_in passes.later) begun (first_place slot) (Some does.envelope) place' mid → SentOne slot solo old packet place' window' mid
     found_it begun passes finds =
         let last = passes.later in
         let envelope = does.envelope in
@@ -371,9 +368,9 @@ sends_one slot solo member window old shows holds packet mid window' place' does
         let is_next : does.identifier ≡ next = sym (least_is (unacknowledged last) does.identifier free) in
         let subscription : solo.subscription ≡ last.subscription = ap (λ (t : HandOutTerms). t.subscription) (sym passes.terms) in
         let put : window' ≡ after_put window next (under last.subscription envelope) = does.put ∙ (λ i. after_put window (is_next i) (under (subscription i) envelope)) in
-        let sent : packet ≡ job false envelope.message last.subscription next = does.sent ∙ (λ i. job false envelope.message (subscription i) (is_next i)) in
+        let sent : packet ≡ job 0 false envelope.message last.subscription next = does.sent ∙ (λ i. job 0 false envelope.message (subscription i) (is_next i)) in
         let got = found_one slot last passes.member window begun passes.shows passes.holds envelope mid place' finds.1 in
-        let fits : is_unfit envelope.message last ≡ false = finds.2 in
+        let fits : is_discarded (terms_in last) envelope.message ≡ false = finds.2 in
         let one : next_hand_out slot envelope.message last ≡ handed slot last.subscription next Unacknowledged = ap (λ b. handed slot last.subscription next (outcome_of b)) fits in
         let behind = with_hand_out (next_hand_out slot envelope.message last) last in
         let waits : waiting_in slot behind ≡ got.0 = waiting_behind (next_hand_out slot envelope.message last) last envelope.message got.0 got.1 in
@@ -381,7 +378,7 @@ sends_one slot solo member window old shows holds packet mid window' place' does
           later = behind;
           same =
               passes.same ∙ ap (λ (l : List Message). hand_out slot l last) got.1 ∙ next_out slot envelope.message got.0 last (has_quota last window passes.holds does.room)
-              ∙ ap (λ b. sent_before (packets_unless b (job false envelope.message last.subscription next)) (hand_out slot got.0 behind)) fits
+              ∙ ap (λ b. sent_before (packets_unless b (job 0 false envelope.message last.subscription next)) (hand_out slot got.0 behind)) fits
               ∙ (λ i. sent_before (sym sent i ∷ []) (hand_out slot (sym waits i) behind));
           member = passes.member;
           terms = passes.terms;
@@ -404,13 +401,13 @@ sends_one slot solo member window old shows holds packet mid window' place' does
         }
 
 pub sends_fresh : (packets : List Packet) (slot : ℕ) (solo : SoloState) → solo.membership ≡ Member slot → (window : Contents Held) (old : Broker) → ShowsBroker solo window.owed old → ShowsWindow solo window
-    → (place' : GroupPlace) (window' : Contents Held) (new : Broker) → SendsFresh Calls (sent_under solo) old (first_place slot) window packets place' window' new
+    → (place' : GroupPlace) (window' : Contents Held) (new : Broker) → SendsFresh Calls (terms_in solo) old (first_place slot) window packets place' window' new
     → Delivers (hand_out slot (waiting_in slot solo) solo) slot old packets place' window' new
 sends_fresh [] slot solo member window old shows holds place' window' new does = sends_none slot solo member window old shows holds new window' place' does
 sends_fresh (packet ∷ packets) slot solo member window old shows holds place' window' new does =
     let one = sends_one slot solo member window old shows holds packet does.2 does.1 does.0 does.3 in
     let again = subst (λ (t : HandOutTerms). SendsFresh Calls t does.2 (first_place slot) does.1 packets place' window' new) (sym one.terms)
-    (subst (λ (p : GroupPlace). SendsFresh Calls (sent_under solo) does.2 p does.1 packets place' window' new) one.place does.4) in
+    (subst (λ (p : GroupPlace). SendsFresh Calls (terms_in solo) does.2 p does.1 packets place' window' new) one.place does.4) in
     let rest = sends_fresh packets slot one.later one.member does.1 does.2 one.shows one.holds place' window' new again in
     subst (λ (s : SoloStep). Delivers s slot old (packet ∷ packets) place' window' new) (sym one.same)
     (record {

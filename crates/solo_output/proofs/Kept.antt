@@ -11,10 +11,11 @@ use Rattle.member_window.specs.Identifiers.{AreDistinct, identifiers_without}
 use Rattle.member_window.proofs.Lists.{distinct_push, distinct_without, length-without}
 use Rattle.session_desk.specs.declared.session.Membership.{Membership}
 use Rattle.session_desk.specs.declared.session.Membership.TheVariants.{NotMember, Member, Leaving}
+use Rattle.conn_rules.specs.HandOuts.{is_discarded}
 use Rattle.solo_output.specs.Groups.{SoloState, HandOut, Outcome, bound, opening, accepted_in, handed_in, waiting_in, is_open, open_identifiers, settled, unacknowledged, with_message, with_share, with_puback, with_hand_out, with_membership}
 use Rattle.solo_output.specs.Groups.Outcome.{Unacknowledged, Acknowledged, Discarded}
 use Rattle.solo_output.specs.Groups.Phase.{Unconnected, Connected}
-use Rattle.solo_output.specs.HandOuts.{quota, least_free, is_unfit, outcome_of, next_hand_out}
+use Rattle.solo_output.specs.HandOuts.{quota, least_free, terms_in, outcome_of, next_hand_out}
 use Rattle.solo_output.specs.Publishing.{is_full}
 use Rattle.solo_output.specs.Replies.{reply, solo_step, solo_steps}
 use Rattle.solo_output.specs.Runs.{IsInGroup}
@@ -173,8 +174,8 @@ kept_settling identifier code solo k =
 -- ---- a hand-out
 
 -- what is unacknowledged then
-opens_behind : (unfit : Bool) (slot : ℕ) (solo : SoloState) → let used = unacknowledged solo in let next = least_free used in
-    open_identifiers (solo.handed_out ++ handed slot solo.subscription next (outcome_of unfit) ∷ []) ≡ used ++ cond unfit [] (next ∷ [])
+opens_behind : (discarded : Bool) (slot : ℕ) (solo : SoloState) → let used = unacknowledged solo in let next = least_free used in
+    open_identifiers (solo.handed_out ++ handed slot solo.subscription next (outcome_of discarded) ∷ []) ≡ used ++ cond discarded [] (next ∷ [])
 opens_behind true slot solo = open_discarded solo.handed_out slot solo.subscription (least_free (unacknowledged solo)) ∙ sym (append-nil (unacknowledged solo))
 opens_behind false slot solo = open_push solo.handed_out slot solo.subscription (least_free (unacknowledged solo))
 
@@ -184,7 +185,7 @@ record AreFree (used : List ℕ) (most : ℕ) : Type 0 where
   distinct : AreDistinct used
   room : length used ≤ most
 
-free_behind : (unfit : Bool) (used : List ℕ) (most : ℕ) → length used < most → most ≤ 256 → AreFree used most → AreFree (used ++ cond unfit [] (least_free used ∷ [])) most
+free_behind : (discarded : Bool) (used : List ℕ) (most : ℕ) → length used < most → most ≤ 256 → AreFree used most → AreFree (used ++ cond discarded [] (least_free used ∷ [])) most
 free_behind true used most less few free = subst (λ (l : List ℕ). AreFree l most) (sym (append-nil used)) free
 free_behind false used most less few free =
     let next = least_free used in
@@ -202,13 +203,13 @@ pub kept_handing : (slot : ℕ) (message : Message) (rest : List Message) (solo 
     → Kept solo → Kept (with_hand_out (next_hand_out slot message solo) solo)
 kept_handing slot message rest solo connected member less waits k =
     let used = unacknowledged solo in
-    let unfit = is_unfit message solo in
+    let discarded = is_discarded (terms_in solo) message in
     let one = next_hand_out slot message solo in
     let behind = with_hand_out one solo in
-    let opens : unacknowledged behind ≡ used ++ cond unfit [] (least_free used ∷ []) = opens_behind unfit slot solo in
+    let opens : unacknowledged behind ≡ used ++ cond discarded [] (least_free used ∷ []) = opens_behind discarded slot solo in
     let free : AreFree (unacknowledged behind) (quota solo) =
     subst (λ (l : List ℕ). AreFree l (quota solo)) (sym opens)
-    (free_behind unfit used (quota solo) less (few_at_once solo.terms.receive_maximum) (record { small = k.small; distinct = k.distinct; room = k.room })) in
+    (free_behind discarded used (quota solo) less (few_at_once solo.terms.receive_maximum) (record { small = k.small; distinct = k.distinct; room = k.room })) in
     let some : length (waiting_in slot solo) ≡ suc (length rest) = ap length waits in
     let many = λ (s : SoloState). λ (at : ℕ). length-drop (length (handed_in at s.handed_out)) (accepted_in at s.groups) in
     let one_more : length (handed_in slot behind.handed_out) ≡ length (handed_in slot solo.handed_out) + 1 = ap length (handed_in_push_same solo.handed_out one) ∙ length_push (handed_in slot solo.handed_out) one in

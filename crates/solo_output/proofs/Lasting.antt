@@ -8,10 +8,11 @@ use Rattle.dispatch_core.proofs.Spots.{slice_get-push_same, slice_get-push_other
 use Rattle.group_jobs.specs.declared.message.Message.{Message}
 use Rattle.session_desk.specs.declared.session.Membership.TheVariants.{Member}
 use Rattle.mqtt_packet.specs.declared.packet.Packet.{Packet}
+use Rattle.conn_rules.specs.HandOuts.{is_discarded}
 use Rattle.solo_output.specs.Groups.{SoloState, HandOut, Outcome, waits_for_puback, settled, unacknowledged, waiting_in, with_puback, with_hand_out}
 use Rattle.solo_output.specs.Groups.Outcome.{Unacknowledged, Acknowledged, Discarded}
 use Rattle.solo_output.specs.Groups.Phase.{Connected}
-use Rattle.solo_output.specs.HandOuts.{quota, is_unfit, outcome_of, next_hand_out, hand_out, deliver}
+use Rattle.solo_output.specs.HandOuts.{quota, terms_in, outcome_of, next_hand_out, hand_out, deliver}
 use Rattle.solo_output.specs.Replies.{solo_steps}
 use Rattle.solo_output.specs.Runs.{IsStill}
 use Rattle.solo_output.proofs.Lists.{handed}
@@ -164,7 +165,7 @@ came_from identifier code hand_outs place told other there is =
     (one.0, one.1, came_as identifier code place told one.0.slot one.0.subscription one.0.identifier one.0.outcome (ap (λ (h : HandOut). h.outcome) one.2 ∙ is))
 
 -- a further hand-out has none
-none_yet : (unfit : Bool) (told : ℕ) → outcome_of unfit ≡ Acknowledged told → ⊥
+none_yet : (discarded : Bool) (told : ℕ) → outcome_of discarded ≡ Acknowledged told → ⊥
 none_yet true told e = absurd cc
 none_yet false told e = absurd cc
 
@@ -175,6 +176,6 @@ coded_before slot message solo place told other there is =
     ⊎_elim
     (λ (last : place ≡ length solo.handed_out).
     let new : one ≡ other = same_Some one other (sym (slice_get-push_same solo.handed_out one) ∙ ap (slice_get (solo.handed_out ++ one ∷ [])) (sym last) ∙ there) in
-    absurd (none_yet (is_unfit message solo) told (ap (λ (h : HandOut). h.outcome) new ∙ is)))
+    absurd (none_yet (is_discarded (terms_in solo) message) told (ap (λ (h : HandOut). h.outcome) new ∙ is)))
     (λ (earlier : place ≢ length solo.handed_out). sym (slice_get-push_other solo.handed_out place one earlier) ∙ there)
     (cases_eq place (length solo.handed_out))

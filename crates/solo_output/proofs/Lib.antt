@@ -26,7 +26,7 @@ pub mod Taken
 pub mod Lasting
 pub mod StepLaws
 pub mod Lawful
-pub mod Unfit
+pub mod Discarded
 pub mod Grouped
 pub mod Joined
 pub mod Left

@@ -244,9 +244,8 @@ neither r slot = (λ e. e, λ e. e)
 
 publish_does : (answer : PublishAnswer) (publish : Publish) (solo : SoloState) → solo.phase ≡ Connected → Does (packets.Publish publish) solo (publish_reply_as answer publish solo)
 publish_does (publishing.Close code) publish solo connected = answers_closing (packets.Publish publish) neither solo (Some (disconnecting code))
-publish_does (publishing.Refuse identifier code) publish solo connected = answers_staying (packets.Publish publish) neither solo connected _
 publish_does (publishing.Offer identifier) publish solo connected =
-    let keeps = offer_keeps (matching publish.topic solo) (message_of publish) solo in
+    let keeps = offer_keeps (matching publish.topic solo) (message_of 0 publish) solo in
     keeps_all (packets.Publish publish) neither solo (publish_reply_as (publishing.Offer identifier) publish solo) keeps.same.membership keeps.same.subscription (inl (keeps.same.phase ∙ connected))
 
 disconnect_does : (packet : Packet) (quiet : Quiet packet) (expiry : Option ℕ) (solo : SoloState) → Does packet solo (disconnect_reply expiry solo)

@@ -193,8 +193,7 @@ module _ (R : SoloState → SoloState → Type 0) (ways : Ways R) (accepts : Acc
 
   publishes : (answer : PublishAnswer) (publish : Publish) (solo : SoloState) → R solo (publish_reply_as answer publish solo).solo
   publishes (publishing.Close code) publish solo = ways.closes solo
-  publishes (publishing.Refuse identifier code) publish solo = ways.stays solo
-  publishes (publishing.Offer identifier) publish solo = offers (matching publish.topic solo) (message_of publish) solo (matching_below publish.topic solo)
+  publishes (publishing.Offer identifier) publish solo = offers (matching publish.topic solo) (message_of 0 publish) solo (matching_below publish.topic solo)
 
   later : (packet : Packet) (solo : SoloState) → R solo (later_reply packet solo).solo
   later (packets.Publish publish) solo = publishes (publish_answer publish) publish solo

@@ -69,7 +69,7 @@ closed setup input output fits is =
     let happens = subst (λ (es : List TimedEvent). HappensAll t.first es t.said t.last) cut_up.events_are t.happens in
     let got =
     subst (λ (limit : ℕ). Concluded (opening setup.capacity limit setup.groups) (whole cut_up.pieces) (sent_in t.said) t.last.broker) t.new.max_inflight
-    (run setup.capacity setup.groups fits cut_up.pieces t.first t.last t.said t.new.broker t.new.clients cut_up.bytes happens) in
+    (run setup.capacity setup.groups fits cut_up.pieces t.first t.last t.said t.new.broker t.new.clients t.new.clock cut_up.bytes happens) in
     let behind = solo_steps got.packets (opening setup.capacity setup.max_inflight setup.groups) in
     record {
       stream = whole cut_up.pieces;

@@ -1,4 +1,4 @@
--- A step of the one connection is a step of the model.
+-- A step of the one connection, at the moment 0, is a step of the model.
 use Rattle.std.proofs.Common.{◌≡◌, ◌⊎◌, ℕ, Bool, List, ◌++◌, Option, Some, None, refl, sym, ap, ◌∙◌, subst, inl, inr}
 use Rattle.std.specs.Option.{option_to_list}
 use Rattle.std.proofs.lemmas.List.{append-nil}
@@ -72,10 +72,10 @@ pub record Parted (fault : Option StreamFault) (solo : SoloState) (sent : List P
 
 -- what is handed out after a reply
 module _ (answer : Reply) (between phase : ConnPhase GroupPlace) (told : ConnReply) (mid new : Broker) (sent all : List Packet) (next : Then) (packet : told.packet ≡ answer.packet)
-    (hands : Hands Calls slot_at mid between sent phase new) (written : all ≡ option_to_list told.packet ++ sent) (followed : next ≡ told.next) where
+    (hands : Hands Calls slot_at mid between 0 sent phase new) (written : all ≡ option_to_list told.packet ++ sent) (followed : next ≡ told.next) where
   goes_on : Goes answer.solo between told.next mid → Stepped (behind_reply answer) all next phase new
   goes_on (connected, is, go, shows) =
-      let does = subst (λ (s : ConnPhase GroupPlace). Hands Calls slot_at mid s sent phase new) is hands in
+      let does = subst (λ (s : ConnPhase GroupPlace). Hands Calls slot_at mid s 0 sent phase new) is hands in
       let got = delivers answer.solo connected mid shows sent does.0 does.1 new does.2 in
       record {
         sent_are = written ∙ (λ i. option_to_list (packet i) ++ got.sent_are i);
@@ -84,7 +84,7 @@ module _ (answer : Reply) (between phase : ConnPhase GroupPlace) (told : ConnRep
 
   is_over : IsOver answer.solo between told.next mid → Stepped (behind_reply answer) all next phase new
   is_over (over, close, is_closed, shows) =
-      let does = subst (λ (s : ConnPhase GroupPlace). Hands Calls slot_at mid s sent phase new) over hands in
+      let does = subst (λ (s : ConnPhase GroupPlace). Hands Calls slot_at mid s 0 sent phase new) over hands in
       subst (λ (p : Phase). Stepped (record { sent = option_to_list answer.packet ++ (deliver_in p answer.solo).sent; solo = (deliver_in p answer.solo).solo }) all next phase new) (sym is_closed)
       (record {
         sent_are = written ∙ (λ i. option_to_list (packet i) ++ does.0 i);
@@ -96,10 +96,10 @@ module _ (answer : Reply) (between phase : ConnPhase GroupPlace) (told : ConnRep
   stepped (inr over) = is_over over
 
 -- a last step sends its answer, if it has one, and nothing else
-last_out : (answer : Option Packet) (between phase : ConnPhase GroupPlace) (told : ConnReply) (mid new : Broker) (sent all : List Packet) → between ≡ phases.Ended → told.packet ≡ answer → Hands Calls slot_at mid between sent phase new
+last_out : (answer : Option Packet) (between phase : ConnPhase GroupPlace) (told : ConnReply) (mid new : Broker) (sent all : List Packet) → between ≡ phases.Ended → told.packet ≡ answer → Hands Calls slot_at mid between 0 sent phase new
     → all ≡ option_to_list told.packet ++ sent → (all ≡ option_to_list answer) × (phase ≡ phases.Ended) × (new ≡ mid)
 last_out answer between phase told mid new sent all over is hands written =
-    let does = subst (λ (s : ConnPhase GroupPlace). Hands Calls slot_at mid s sent phase new) over hands in
+    let does = subst (λ (s : ConnPhase GroupPlace). Hands Calls slot_at mid s 0 sent phase new) over hands in
     (written ∙ (λ i. option_to_list (is i) ++ does.0 i) ∙ append-nil (option_to_list answer), does.1, does.2)
 
 refused_if : (refusal : Option ConnectRefusal) (phase : ConnPhase GroupPlace) (told : ConnReply) → IsRefusedIf refusal phase told → (phase ≡ phases.Ended) × (told.packet ≡ refused_by refusal)
@@ -122,88 +122,88 @@ module _ (capacity : ℕ) (opened : Opening) (shares : List Share) (old : Broker
       told_in : (slot : ℕ) (group : Group) → ReportsFates slot (opening capacity opened.max_inflight shares) group → ReportsFates slot (with_phase Closed (opening capacity opened.max_inflight shares)) group
       told_in slot group is_told = record { entries = is_told.entries; returned = is_told.returned; ends = is_told.ends; fates = is_told.fates }
 
-  first_packet : (now : ℕ) (answer : FirstAnswer) (packet : Packet) (phase : ConnPhase GroupPlace) (told : ConnReply) (new : Broker) → AnswersFirst Calls slot_at answer old 0 opened.max_inflight now packet phase told new
+  first_packet : (answer : FirstAnswer) (packet : Packet) (phase : ConnPhase GroupPlace) (told : ConnReply) (new : Broker) → AnswersFirst Calls slot_at answer old 0 opened.max_inflight 0 packet phase told new
       → Reacted (first_reply_as answer packet (opening capacity opened.max_inflight shares)) phase told new
-  first_packet now first.Close packet phase told new does = closed_first None phase told new does.0.over does.0.told does.1
-  first_packet now (first.Refuse refusal) packet phase told new does = closed_first _ phase told new does.0.over does.0.told does.1
-  first_packet now first.Attach packet phase told new (connect, is, does) =
-      let b = attaches connect capacity opened.max_inflight shares now phase told old new is_new fits does in
+  first_packet first.Close packet phase told new does = closed_first None phase told new does.0.over does.0.told does.1
+  first_packet (first.Refuse refusal) packet phase told new does = closed_first _ phase told new does.0.over does.0.told does.1
+  first_packet first.Attach packet phase told new (connect, is, does) =
+      let b = attaches connect capacity opened.max_inflight shares 0 phase told old new is_new fits does in
       subst (λ (p : Packet). Reacted (attach_reply p (opening capacity opened.max_inflight shares)) phase told new) (sym is)
       (record { packet = ap (λ (t : ConnReply). t.packet) b.told; stands = inl (b.connected, b.stands, ap (λ (t : ConnReply). t.next) b.told, b.shows) })
 
-  pub first_step : (now : ℕ) (packet : Packet) (all : List Packet) (next : Then) (phase : ConnPhase GroupPlace) (new : Broker)
-      → Steps Calls slot_at old 0 (phases.Unconnected opened) now (inputs.Packet packet) all next phase new → Stepped (solo_step packet (opening capacity opened.max_inflight shares)) all next phase new
-  first_step now packet all next phase new does =
-      let got = first_packet now (first_answer packet) packet does.between does.reply does.mid does.reacts in
+  pub first_step : (packet : Packet) (all : List Packet) (next : Then) (phase : ConnPhase GroupPlace) (new : Broker)
+      → Steps Calls slot_at old 0 (phases.Unconnected opened) 0 (inputs.Packet packet) all next phase new → Stepped (solo_step packet (opening capacity opened.max_inflight shares)) all next phase new
+  first_step packet all next phase new does =
+      let got = first_packet (first_answer packet) packet does.between does.reply does.mid does.reacts in
       stepped (first_reply packet (opening capacity opened.max_inflight shares)) does.between phase does.reply does.mid new does.sent all next got.packet does.hands does.written does.followed got.stands
 
   -- the last step of a client that never connected
-  pub first_last : (now : ℕ) (fault : Option StreamFault) (input : Input) (all : List Packet) (next : Then) (phase : ConnPhase GroupPlace) (new : Broker) → IsLast fault input
-      → Steps Calls slot_at old 0 (phases.Unconnected opened) now input all next phase new → Parted fault (opening capacity opened.max_inflight shares) all phase new
-  first_last now None inputs.EndOfInput all next phase new is does =
+  pub first_last : (fault : Option StreamFault) (input : Input) (all : List Packet) (next : Then) (phase : ConnPhase GroupPlace) (new : Broker) → IsLast fault input
+      → Steps Calls slot_at old 0 (phases.Unconnected opened) 0 input all next phase new → Parted fault (opening capacity opened.max_inflight shares) all phase new
+  first_last None inputs.EndOfInput all next phase new is does =
       let out = last_out None does.between phase does.reply does.mid new does.sent all does.reacts.0.over (ap (λ (t : ConnReply). t.packet) does.reacts.0.told) does.hands does.written in
       record { sent_are = out.0; over = out.1; shows = subst (ShowsEnd (opening capacity opened.max_inflight shares)) (sym (out.2 ∙ does.reacts.1)) ended }
-  first_last now None (inputs.Packet packet) all next phase new is does = absurd is
-  first_last now None (inputs.Fault fault) all next phase new is does = absurd is
-  first_last now None inputs.Tick all next phase new is does = absurd is
-  first_last now None inputs.Closing all next phase new is does = absurd is
-  first_last now (Some fault) input all next phase new is does =
-      let its = subst (λ (i : Input). Steps Calls slot_at old 0 (phases.Unconnected opened) now i all next phase new) is does in
+  first_last None (inputs.Packet packet) all next phase new is does = absurd is
+  first_last None (inputs.Fault fault) all next phase new is does = absurd is
+  first_last None inputs.Tick all next phase new is does = absurd is
+  first_last None inputs.Closing all next phase new is does = absurd is
+  first_last (Some fault) input all next phase new is does =
+      let its = subst (λ (i : Input). Steps Calls slot_at old 0 (phases.Unconnected opened) 0 i all next phase new) is does in
       let refused = refused_if (fault_refusal fault) its.between its.reply its.reacts.0 in
       let out = last_out (refused_by (fault_refusal fault)) its.between phase its.reply its.mid new its.sent all refused.0 refused.1 its.hands its.written in
       record { sent_are = out.0; over = out.1; shows = subst (ShowsEnd (opening capacity opened.max_inflight shares)) (sym (out.2 ∙ its.reacts.1)) ended }
 
 -- ---- a client that has its session
 module _ (solo : SoloState) (connected : ConnectedClient GroupPlace) (old : Broker) (shows : ShowsClient solo connected old) where
-  concludes : (answer : Reply) (after : ConnectedClient GroupPlace) (now : ℕ) (told : ConnReply) (phase : ConnPhase GroupPlace) (mid new : Broker) → Answered answer after told mid → Concludes Calls slot_at mid after now told.next phase new → Reacted answer phase told new
-  concludes answer after now told phase mid new answered does = record { packet = answered.told; stands = either answered.stands }
+  concludes : (answer : Reply) (after : ConnectedClient GroupPlace) (told : ConnReply) (phase : ConnPhase GroupPlace) (mid new : Broker) → Answered answer after told mid → Concludes Calls slot_at mid after 0 told.next phase new → Reacted answer phase told new
+  concludes answer after told phase mid new answered does = record { packet = answered.told; stands = either answered.stands }
     where
       either : ((told.next ≡ Go) × ShowsClient answer.solo after mid) ⊎ ((told.next ≡ Close) × (answer.solo.phase ≡ Closed) × ShowsSession answer.solo after.session mid)
           → Goes answer.solo phase told.next new ⊎ IsOver answer.solo phase told.next new
       either (inl (go, shown)) =
-          let its = subst (λ (t : Then). Concludes Calls slot_at mid after now t phase new) go does in
+          let its = subst (λ (t : Then). Concludes Calls slot_at mid after 0 t phase new) go does in
           inl (after, its.0, go, subst (ShowsClient answer.solo after) (sym its.1) shown)
       either (inr (close, is_closed, shown)) =
-          let its = subst (λ (t : Then). Concludes Calls slot_at mid after now t phase new) close does in
-          inr (its.1, close, is_closed, parts answer.solo after.session mid new now shown its.0)
+          let its = subst (λ (t : Then). Concludes Calls slot_at mid after 0 t phase new) close does in
+          inr (its.1, close, is_closed, parts answer.solo after.session mid new 0 shown its.0)
 
-  later_packet : (now : ℕ) (packet : Packet) (phase : ConnPhase GroupPlace) (told : ConnReply) (new : Broker) → Reacts Calls slot_at old 0 (phases.Connected connected) now (inputs.Packet packet) phase told new
+  later_packet : (packet : Packet) (phase : ConnPhase GroupPlace) (told : ConnReply) (new : Broker) → Reacts Calls slot_at old 0 (phases.Connected connected) 0 (inputs.Packet packet) phase told new
       → Reacted (later_reply packet solo) phase told new
-  later_packet now packet phase told new (kicked, mid, asked, does) =
+  later_packet packet phase told new (kicked, mid, asked, does) =
       let not = not_kicked kicked old mid shows.session.desk.not_kicked asked in
       let same : mid ≡ old = λ i. record { desk = not.1 i; routes = not.2 i; groups = not.3 i } in
-      let its = subst (λ (b : Bool). AnswersUnlessKicked Calls slot_at b mid connected now (AnswersPacket Calls slot_at mid 0 connected now packet) phase told new) not.0 does in
-      let heard = hearing connected now in
+      let its = subst (λ (b : Bool). AnswersUnlessKicked Calls slot_at b mid connected 0 (AnswersPacket Calls slot_at mid 0 connected 0 packet) phase told new) not.0 does in
+      let heard = hearing connected 0 in
       let shown : ShowsClient solo heard mid = subst (ShowsClient solo heard) (sym same) (record { session = shows.session; terms = shows.terms; phase = shows.phase }) in
       let answered = answers solo heard mid shown packet its.0 told its.1 its.2 in
-      concludes (later_reply packet solo) its.0 now told phase its.1 new answered its.3
+      concludes (later_reply packet solo) its.0 told phase its.1 new answered its.3
 
-  pub later_step : (now : ℕ) (packet : Packet) (all : List Packet) (next : Then) (phase : ConnPhase GroupPlace) (new : Broker)
-      → Steps Calls slot_at old 0 (phases.Connected connected) now (inputs.Packet packet) all next phase new → Stepped (solo_step packet solo) all next phase new
-  later_step now packet all next phase new does =
-      let got = later_packet now packet does.between does.reply does.mid does.reacts in
+  pub later_step : (packet : Packet) (all : List Packet) (next : Then) (phase : ConnPhase GroupPlace) (new : Broker)
+      → Steps Calls slot_at old 0 (phases.Connected connected) 0 (inputs.Packet packet) all next phase new → Stepped (solo_step packet solo) all next phase new
+  later_step packet all next phase new does =
+      let got = later_packet packet does.between does.reply does.mid does.reacts in
       subst (λ (p : Phase). Stepped (behind_reply (reply_in p packet solo)) all next phase new) (sym shows.phase)
       (stepped (later_reply packet solo) does.between phase does.reply does.mid new does.sent all next got.packet does.hands does.written does.followed got.stands)
 
   -- the session parts with its connection
-  parted : (now : ℕ) (fault : Option StreamFault) (answer : Option Packet) (between phase : ConnPhase GroupPlace) (told : ConnReply) (mid new : Broker) (sent all : List Packet) → farewell_in Connected fault ≡ answer → told ≡ record { packet = answer; next = Close }
-      → Parts Calls old connected.session now mid × (between ≡ phases.Ended) → Hands Calls slot_at mid between sent phase new → all ≡ option_to_list told.packet ++ sent → Parted fault solo all phase new
-  parted now fault answer between phase told mid new sent all is_answer is does hands written =
+  parted : (fault : Option StreamFault) (answer : Option Packet) (between phase : ConnPhase GroupPlace) (told : ConnReply) (mid new : Broker) (sent all : List Packet) → farewell_in Connected fault ≡ answer → told ≡ record { packet = answer; next = Close }
+      → Parts Calls old connected.session 0 mid × (between ≡ phases.Ended) → Hands Calls slot_at mid between 0 sent phase new → all ≡ option_to_list told.packet ++ sent → Parted fault solo all phase new
+  parted fault answer between phase told mid new sent all is_answer is does hands written =
       let out = last_out answer between phase told mid new sent all does.1 (ap (λ (t : ConnReply). t.packet) is) hands written in
       record {
         sent_are = out.0 ∙ ap option_to_list (sym is_answer ∙ ap (λ (p : Phase). farewell_in p fault) (sym shows.phase));
         over = out.1;
-        shows = subst (ShowsEnd solo) (sym out.2) (parts solo connected.session old mid now shows.session does.0);
+        shows = subst (ShowsEnd solo) (sym out.2) (parts solo connected.session old mid 0 shows.session does.0);
       }
 
-  pub later_last : (now : ℕ) (fault : Option StreamFault) (input : Input) (all : List Packet) (next : Then) (phase : ConnPhase GroupPlace) (new : Broker) → IsLast fault input
-      → Steps Calls slot_at old 0 (phases.Connected connected) now input all next phase new → Parted fault solo all phase new
-  later_last now None inputs.EndOfInput all next phase new is does =
-      parted now None None does.between phase does.reply does.mid new does.sent all refl does.reacts.0 does.reacts.1 does.hands does.written
-  later_last now None (inputs.Packet packet) all next phase new is does = absurd is
-  later_last now None (inputs.Fault fault) all next phase new is does = absurd is
-  later_last now None inputs.Tick all next phase new is does = absurd is
-  later_last now None inputs.Closing all next phase new is does = absurd is
-  later_last now (Some fault) input all next phase new is does =
-      let its = subst (λ (i : Input). Steps Calls slot_at old 0 (phases.Connected connected) now i all next phase new) is does in
-      parted now (Some fault) _ its.between phase its.reply its.mid new its.sent all refl its.reacts.0 its.reacts.1 its.hands its.written
+  pub later_last : (fault : Option StreamFault) (input : Input) (all : List Packet) (next : Then) (phase : ConnPhase GroupPlace) (new : Broker) → IsLast fault input
+      → Steps Calls slot_at old 0 (phases.Connected connected) 0 input all next phase new → Parted fault solo all phase new
+  later_last None inputs.EndOfInput all next phase new is does =
+      parted None None does.between phase does.reply does.mid new does.sent all refl does.reacts.0 does.reacts.1 does.hands does.written
+  later_last None (inputs.Packet packet) all next phase new is does = absurd is
+  later_last None (inputs.Fault fault) all next phase new is does = absurd is
+  later_last None inputs.Tick all next phase new is does = absurd is
+  later_last None inputs.Closing all next phase new is does = absurd is
+  later_last (Some fault) input all next phase new is does =
+      let its = subst (λ (i : Input). Steps Calls slot_at old 0 (phases.Connected connected) 0 i all next phase new) is does in
+      parted (Some fault) _ its.between phase its.reply its.mid new its.sent all refl its.reacts.0 its.reacts.1 its.hands its.written

@@ -20,13 +20,14 @@ use Rattle.conn_rules.specs.declared.connecting.FirstAnswer.TheVariants as first
 use Rattle.conn_rules.specs.declared.publishing.PublishAnswer.{PublishAnswer}
 use Rattle.conn_rules.specs.declared.publishing.PublishAnswer.TheVariants as publishing
 use Rattle.conn_rules.specs.Connecting.{first_answer, is_given_expiry}
+use Rattle.conn_rules.specs.HandOuts.{is_discarded}
 use Rattle.conn_rules.specs.Packets.{job, disconnect as disconnecting}
 use Rattle.conn_rules.specs.Publishing.{publish_answer}
 use Rattle.conn_rules.specs.Subscribing.{subscribe_refusal, unsubscribe_refusal}
 use Rattle.solo_output.specs.Groups.{SoloState, HandOut, Phase, accepted_in, waiting_in, open_identifiers, settled, unacknowledged, with_hand_out}
 use Rattle.solo_output.specs.Groups.Outcome.{Unacknowledged, Acknowledged}
 use Rattle.solo_output.specs.Groups.Phase.{Unconnected, Connected, Closed}
-use Rattle.solo_output.specs.HandOuts.{SoloStep, has_room, least_free, is_unfit, packets_unless, next_hand_out, next_packets, sent_before, hand_out, sends_nothing, deliver_to, deliver_in, deliver}
+use Rattle.solo_output.specs.HandOuts.{SoloStep, has_room, least_free, terms_in, packets_unless, next_hand_out, next_packets, sent_before, hand_out, sends_nothing, deliver_to, deliver_in, deliver}
 use Rattle.solo_output.specs.Publishing.{Reply, closing, publish_reply_as}
 use Rattle.solo_output.specs.Subscribing.{subscribe_reply_as, unsubscribe_reply_as}
 use Rattle.solo_output.specs.Replies.{attach_reply, first_reply_as, with_expiry, disconnect_reply, later_reply, reply_in, reply, behind_reply, solo_step, solo_steps}
@@ -89,12 +90,10 @@ closed packet solo code = unmoved packet solo (closing (Some (disconnecting code
 
 publish_quiet : (answer : PublishAnswer) (publish : Publish) (solo : SoloState) → published (option_to_list (publish_reply_as answer publish solo).packet) ≡ []
 publish_quiet (publishing.Close code) publish solo = refl
-publish_quiet (publishing.Refuse identifier code) publish solo = refl
 publish_quiet (publishing.Offer identifier) publish solo = refl
 
 publish_codes : (answer : PublishAnswer) (publish : Publish) (solo : SoloState) → (publish_reply_as answer publish solo).solo.handed_out ≡ solo.handed_out
 publish_codes (publishing.Close code) publish solo = refl
-publish_codes (publishing.Refuse identifier code) publish solo = refl
 publish_codes (publishing.Offer identifier) publish solo = (offer_keeps _ _ solo).handed_out
 
 subscribe_quiet : (refusal : Option ℕ) (subscribe : Subscribe) (solo : SoloState) → published (option_to_list (subscribe_reply_as refusal subscribe solo).packet) ≡ []
@@ -232,7 +231,7 @@ step_codes packet solo place told other there coded =
     (before, (answers packet solo).codes place told other before coded)
 
 -- hand-outs are PUBLISH packets, and nothing else that is sent is one
-some_published : (unfit : Bool) (message : Message) (subscription : Option ℕ) (identifier : ℕ) → published (packets_unless unfit (job false message subscription identifier)) ≡ packets_unless unfit (job false message subscription identifier)
+some_published : (discarded : Bool) (message : Message) (subscription : Option ℕ) (identifier : ℕ) → published (packets_unless discarded (job 0 false message subscription identifier)) ≡ packets_unless discarded (job 0 false message subscription identifier)
 some_published true message subscription identifier = refl
 some_published false message subscription identifier = refl
 
@@ -241,7 +240,7 @@ all_published slot [] solo = refl
 all_published slot (message ∷ messages) solo =
     let sent = next_packets message solo in
     let later = hand_out slot messages (with_hand_out (next_hand_out slot message solo) solo) in
-    let first' : published sent ≡ sent = some_published (is_unfit message solo) message solo.subscription (least_free (unacknowledged solo)) in
+    let first' : published sent ≡ sent = some_published (is_discarded (terms_in solo) message) message solo.subscription (least_free (unacknowledged solo)) in
     cond_both (has_room solo) (sent_before sent later) (sends_nothing solo) (λ s. published s.sent ≡ s.sent)
     (λ room. filter-append is_publish sent later.sent ∙ (λ i. first' i ++ all_published slot messages (with_hand_out (next_hand_out slot message solo) solo) i))
     (λ full. refl)

@@ -107,11 +107,10 @@ bits_few topic solo =
 -- what a group accepts of a PUBLISH
 pub takes_of : (answer : PublishAnswer) (publish : Publish) (solo : SoloState) (slot : ℕ) → accepted_in slot (publish_reply_as answer publish solo).solo.groups ≡ accepted_in slot solo.groups ++ taken_of_offer answer slot publish solo
 takes_of (publishing.Close code) publish solo slot = sym (append-nil (accepted_in slot solo.groups))
-takes_of (publishing.Refuse identifier code) publish solo slot = sym (append-nil (accepted_in slot solo.groups))
 takes_of (publishing.Offer identifier) publish solo slot =
     let bits = routed publish.topic (shares_of solo.groups) in
-    offered_at slot 0 slot bits (message_of publish) solo (sym (zero-add slot)) (bits_few publish.topic solo)
-    ∙ ap (λ (b : Bool). accepted_in slot solo.groups ++ taken_if b (message_of publish)) (sym (takes_at slot 0 slot bits (λ taker. not (is_full taker solo)) (sym (zero-add slot))))
+    offered_at slot 0 slot bits (message_of 0 publish) solo (sym (zero-add slot)) (bits_few publish.topic solo)
+    ∙ ap (λ (b : Bool). accepted_in slot solo.groups ++ taken_if b (message_of 0 publish)) (sym (takes_at slot 0 slot bits (λ taker. not (is_full taker solo)) (sym (zero-add slot))))
 
 -- ---- how many groups took a message
 
@@ -137,4 +136,4 @@ pub answered : (publish : Publish) (identifier : ℕ) (solo : SoloState) → sol
 answered publish identifier solo connected answer =
     ap (λ (p : Phase). (reply_in p (kinds.Publish publish) solo).packet) connected
     ∙ ap (λ (a : PublishAnswer). (publish_reply_as a publish solo).packet) answer
-    ∙ ap (λ (n : ℕ). Some (puback identifier (puback_code (length (matching publish.topic solo)) n))) (taken_many 0 (routed publish.topic (shares_of solo.groups)) (message_of publish) solo solo (λ slot past. refl))
+    ∙ ap (λ (n : ℕ). Some (puback identifier (puback_code (length (matching publish.topic solo)) n))) (taken_many 0 (routed publish.topic (shares_of solo.groups)) (message_of 0 publish) solo solo (λ slot past. refl))

@@ -8,11 +8,12 @@ use Rattle.mqtt_packet.specs.declared.packet.Packet.{Packet}
 use Rattle.group_jobs.specs.declared.message.Message.{Message}
 use Rattle.session_desk.specs.declared.session.Membership.{Membership}
 use Rattle.session_desk.specs.declared.session.Membership.TheVariants.{NotMember, Member, Leaving}
+use Rattle.conn_rules.specs.HandOuts.{is_discarded}
 use Rattle.conn_rules.specs.Packets.{job}
 use Rattle.solo_output.specs.Groups.{SoloState, HandOut, Outcome, Phase, accepted_in, handed_in, waiting_in, is_open, was_sent, settled, unacknowledged, with_message, with_puback, with_hand_out, with_membership}
 use Rattle.solo_output.specs.Groups.Outcome.{Unacknowledged, Acknowledged, Discarded}
 use Rattle.solo_output.specs.Groups.Phase.{Unconnected, Connected, Closed}
-use Rattle.solo_output.specs.HandOuts.{least_free, has_room, is_unfit, outcome_of, packets_unless, next_hand_out, next_packets, sent_before, sends_nothing, hand_out, deliver_to, deliver_in, deliver}
+use Rattle.solo_output.specs.HandOuts.{least_free, has_room, terms_in, outcome_of, packets_unless, next_hand_out, next_packets, sent_before, sends_nothing, hand_out, deliver_to, deliver_in, deliver}
 use Rattle.solo_output.specs.Publishing.{is_full}
 use Rattle.solo_output.specs.Replies.{reply}
 use Rattle.solo_output.specs.Runs.{sent_of, sent_in, jobs_of}
@@ -62,12 +63,12 @@ jobs_none (message ∷ messages) = refl
 
 -- the job of one hand-out in front of others
 abbrev job_if : Message → HandOut → List Packet → List Packet
-job_if message one rest = cond (was_sent one) (job false message one.subscription one.identifier ∷ rest) rest
+job_if message one rest = cond (was_sent one) (job 0 false message one.subscription one.identifier ∷ rest) rest
 
 job_first : (b : Bool) (message : Message) (one : HandOut) (pairs : List (Message × HandOut))
-    → map (λ (pair : Message × HandOut). job false pair.0 pair.1.subscription pair.1.identifier) (cond b ((message, one) ∷ pairs) pairs)
-    ≡ cond b (job false message one.subscription one.identifier ∷ map (λ (pair : Message × HandOut). job false pair.0 pair.1.subscription pair.1.identifier) pairs)
-    (map (λ (pair : Message × HandOut). job false pair.0 pair.1.subscription pair.1.identifier) pairs)
+    → map (λ (pair : Message × HandOut). job 0 false pair.0 pair.1.subscription pair.1.identifier) (cond b ((message, one) ∷ pairs) pairs)
+    ≡ cond b (job 0 false message one.subscription one.identifier ∷ map (λ (pair : Message × HandOut). job 0 false pair.0 pair.1.subscription pair.1.identifier) pairs)
+    (map (λ (pair : Message × HandOut). job 0 false pair.0 pair.1.subscription pair.1.identifier) pairs)
 job_first true message one pairs = refl
 job_first false message one pairs = refl
 
@@ -89,7 +90,7 @@ jobs_push (own ∷ messages) [] message rest one left =
 jobs_push (own ∷ messages) (other ∷ hand_outs) message rest one left =
     jobs_cons own messages other (hand_outs ++ one ∷ [])
     ∙ ap (job_if own other) (jobs_push messages hand_outs message rest one left)
-    ∙ both_if (was_sent other) (job false own other.subscription other.identifier) (jobs_of messages hand_outs) (job_if message one [])
+    ∙ both_if (was_sent other) (job 0 false own other.subscription other.identifier) (jobs_of messages hand_outs) (job_if message one [])
     ∙ ap (λ (l : List Packet). l ++ job_if message one []) (sym (jobs_cons own messages other hand_outs))
 
 -- a further message is none that went out
@@ -131,7 +132,7 @@ jobs_settled identifier code (message ∷ messages) (one ∷ hand_outs) =
     let its = is_open one && (one.identifier == identifier) in
     let rest = jobs_settled identifier code messages hand_outs in
     jobs_cons message messages (settled identifier code one) (map (settled identifier code) hand_outs)
-    ∙ (λ i. cond (same_sent identifier code one i) (job false message (same_subscription its code one i) (same_identifier its code one i) ∷ rest i) (rest i))
+    ∙ (λ i. cond (same_sent identifier code one i) (job 0 false message (same_subscription its code one i) (same_identifier its code one i) ∷ rest i) (rest i))
     ∙ sym (jobs_cons message messages one hand_outs)
 
 first_kept : (b : Bool) (packet : Packet) (one other : HandOut) (pairs : List (Packet × HandOut))
@@ -241,10 +242,10 @@ nothing_if true = refl
 nothing_if false = refl
 
 -- the packets of one slot
-sent_one : (unfit : Bool) (slot at : ℕ) (subscription : Option ℕ) (identifier : ℕ) (packet : Packet) (packets : List Packet) (hand_outs : List HandOut) → length packets ≡ length (sent_of hand_outs)
-    → let one = handed slot subscription identifier (outcome_of unfit) in
-    (length (packets ++ packets_unless unfit packet) ≡ length (sent_of (hand_outs ++ one ∷ [])))
-    × (sent_in at (packets ++ packets_unless unfit packet) (hand_outs ++ one ∷ []) ≡ sent_in at packets hand_outs ++ cond (slot == at) (packets_unless unfit packet) [])
+sent_one : (discarded : Bool) (slot at : ℕ) (subscription : Option ℕ) (identifier : ℕ) (packet : Packet) (packets : List Packet) (hand_outs : List HandOut) → length packets ≡ length (sent_of hand_outs)
+    → let one = handed slot subscription identifier (outcome_of discarded) in
+    (length (packets ++ packets_unless discarded packet) ≡ length (sent_of (hand_outs ++ one ∷ [])))
+    × (sent_in at (packets ++ packets_unless discarded packet) (hand_outs ++ one ∷ []) ≡ sent_in at packets hand_outs ++ cond (slot == at) (packets_unless discarded packet) [])
 sent_one true slot at subscription identifier packet packets hand_outs same =
     let one = handed slot subscription identifier Discarded in
     let kept = sent_of_discarded hand_outs one refl in
@@ -259,8 +260,8 @@ sent_one false slot at subscription identifier packet packets hand_outs same =
       ap (its_packets at (packets ++ packet ∷ [])) more ∙ its_push at packets (sent_of hand_outs) packet one same,
     )
 
-job_of_one : (unfit : Bool) (slot : ℕ) (subscription : Option ℕ) (identifier : ℕ) (message : Message)
-    → job_if message (handed slot subscription identifier (outcome_of unfit)) [] ≡ packets_unless unfit (job false message subscription identifier)
+job_of_one : (discarded : Bool) (slot : ℕ) (subscription : Option ℕ) (identifier : ℕ) (message : Message)
+    → job_if message (handed slot subscription identifier (outcome_of discarded)) [] ≡ packets_unless discarded (job 0 false message subscription identifier)
 job_of_one true slot subscription identifier message = refl
 job_of_one false slot subscription identifier message = refl
 
@@ -268,10 +269,10 @@ told_one : (slot : ℕ) (message : Message) (rest : List Message) (solo : SoloSt
     → SentAsHandedOut (packets ++ next_packets message solo) (with_hand_out (next_hand_out slot message solo) solo)
 told_one slot message rest solo packets waits told =
     let next = least_free (unacknowledged solo) in
-    let unfit = is_unfit message solo in
+    let discarded = is_discarded (terms_in solo) message in
     let one = next_hand_out slot message solo in
-    let packet = job false message solo.subscription next in
-    let sent = λ (at : ℕ). sent_one unfit slot at solo.subscription next packet packets solo.handed_out told.many in
+    let packet = job 0 false message solo.subscription next in
+    let sent = λ (at : ℕ). sent_one discarded slot at solo.subscription next packet packets solo.handed_out told.many in
     record {
       many = (sent slot).0;
       each = λ at.
@@ -280,7 +281,7 @@ told_one slot message rest solo packets waits told =
           subst (λ (n : ℕ). sent_in n (packets ++ next_packets message solo) (solo.handed_out ++ one ∷ []) ≡ jobs_of (accepted_in n solo.groups) (handed_in n (solo.handed_out ++ one ∷ []))) (sym is)
           ((sent slot).1
           ∙ ap (λ b. sent_in slot packets solo.handed_out ++ cond b (next_packets message solo) []) (eq-eqb slot slot refl)
-          ∙ (λ i. told.each slot i ++ sym (job_of_one unfit slot solo.subscription next message) i)
+          ∙ (λ i. told.each slot i ++ sym (job_of_one discarded slot solo.subscription next message) i)
           ∙ sym (jobs_push (accepted_in slot solo.groups) (handed_in slot solo.handed_out) message rest one waits)
           ∙ ap (jobs_of (accepted_in slot solo.groups)) (sym (handed_in_push_same solo.handed_out one))))
           (λ (other : at ≢ slot).

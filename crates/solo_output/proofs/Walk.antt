@@ -1,5 +1,5 @@
 -- The run of a server on which the stream of one client comes in pieces is the model of what the stream reads as.
-use Rattle.std.proofs.Common.{◌≡◌, ◌⊎◌, ℕ, zero, suc, ◌<◌, Bool, true, false, not, List, [], ◌∷◌, ◌++◌, replicate, get_or, slice_get, Option, Some, None, Ok, refl, sym, ap, ◌∙◌, subst, ⊎_elim, inl, inr, arith}
+use Rattle.std.proofs.Common.{◌≡◌, ◌⊎◌, ℕ, zero, suc, ◌<◌, max, Bool, true, false, not, List, [], ◌∷◌, ◌++◌, replicate, get_or, slice_get, Option, Some, None, Ok, refl, sym, ap, ◌∙◌, subst, ⊎_elim, inl, inr, arith}
 use Rattle.std.specs.List.{flat_map}
 use Rattle.std.specs.Option.{option_to_list}
 use Rattle.std.proofs.lemmas.Bool.{not_from_false}
@@ -118,23 +118,37 @@ one_more solo packet front after stream first later last spelled parts is rest =
       shows = rest.shows;
     }
 
+-- all happens at the moment 0: so does each step
+now_at_once : (client : ClientState GroupPlace) → client.conn.latest ≡ 0 → moment_of client 0 ≡ 0
+now_at_once client latest = ap (λ (n : ℕ). max n 0) latest
+
+step_at_once : (client client' : ClientState GroupPlace) (old new : Broker) (input : Input) (said : StepOutput) → client.conn.number ≡ 0 → client.conn.latest ≡ 0
+    → ClientSteps Calls slot_at old client 0 input said client' new → Steps Calls slot_at old 0 client.conn.phase 0 input said.packets said.next client'.conn.phase new
+step_at_once client client' old new input said number latest moved =
+    subst (λ (m : ℕ). Steps Calls slot_at old 0 client.conn.phase m input said.packets said.next client'.conn.phase new) (now_at_once client latest)
+    (subst (λ (n : ℕ). Steps Calls slot_at old n client.conn.phase (moment_of client 0) input said.packets said.next client'.conn.phase new) number moved.stepped)
+
+-- and so does each event
+clock_at_once : (old new : ServerState) → old.clock ≡ 0 → new.clock ≡ max old.clock 0 → new.clock ≡ 0
+clock_at_once old new clock is = is ∙ ap (λ (n : ℕ). max n 0) clock
+
 module _ (capacity : ℕ) (shares : List Share) (fits : FitsBroker capacity shares) where
   -- ---- a step
-  stepped : (solo : SoloState) (phase : ConnPhase GroupPlace) (old : Broker) (now : ℕ) (packet : Packet) (all : List Packet) (next : Then) (phase' : ConnPhase GroupPlace) (new : Broker) → Shown capacity shares solo phase old
-      → Steps Calls slot_at old 0 phase now (inputs.Packet packet) all next phase' new → Stepped (solo_step packet solo) all next phase' new
-  stepped solo phase old now packet all next phase' new (inl (opened, is, begins, is_new)) does =
+  stepped : (solo : SoloState) (phase : ConnPhase GroupPlace) (old : Broker) (packet : Packet) (all : List Packet) (next : Then) (phase' : ConnPhase GroupPlace) (new : Broker) → Shown capacity shares solo phase old
+      → Steps Calls slot_at old 0 phase 0 (inputs.Packet packet) all next phase' new → Stepped (solo_step packet solo) all next phase' new
+  stepped solo phase old packet all next phase' new (inl (opened, is, begins, is_new)) does =
       subst (λ (s : SoloState). Stepped (solo_step packet s) all next phase' new) (sym begins)
-      (first_step capacity opened shares old is_new fits now packet all next phase' new (subst (λ (s : ConnPhase GroupPlace). Steps Calls slot_at old 0 s now (inputs.Packet packet) all next phase' new) is does))
-  stepped solo phase old now packet all next phase' new (inr (connected, is, shows)) does =
-      later_step solo connected old shows now packet all next phase' new (subst (λ (s : ConnPhase GroupPlace). Steps Calls slot_at old 0 s now (inputs.Packet packet) all next phase' new) is does)
+      (first_step capacity opened shares old is_new fits packet all next phase' new (subst (λ (s : ConnPhase GroupPlace). Steps Calls slot_at old 0 s 0 (inputs.Packet packet) all next phase' new) is does))
+  stepped solo phase old packet all next phase' new (inr (connected, is, shows)) does =
+      later_step solo connected old shows packet all next phase' new (subst (λ (s : ConnPhase GroupPlace). Steps Calls slot_at old 0 s 0 (inputs.Packet packet) all next phase' new) is does)
 
-  parted : (solo : SoloState) (phase : ConnPhase GroupPlace) (old : Broker) (now : ℕ) (fault : Option StreamFault) (input : Input) (all : List Packet) (next : Then) (phase' : ConnPhase GroupPlace) (new : Broker) → Shown capacity shares solo phase old
-      → IsLast fault input → Steps Calls slot_at old 0 phase now input all next phase' new → Parted fault solo all phase' new
-  parted solo phase old now fault input all next phase' new (inl (opened, is, begins, is_new)) ends does =
+  parted : (solo : SoloState) (phase : ConnPhase GroupPlace) (old : Broker) (fault : Option StreamFault) (input : Input) (all : List Packet) (next : Then) (phase' : ConnPhase GroupPlace) (new : Broker) → Shown capacity shares solo phase old
+      → IsLast fault input → Steps Calls slot_at old 0 phase 0 input all next phase' new → Parted fault solo all phase' new
+  parted solo phase old fault input all next phase' new (inl (opened, is, begins, is_new)) ends does =
       subst (λ (s : SoloState). Parted fault s all phase' new) (sym begins)
-      (first_last capacity opened shares old is_new fits now fault input all next phase' new ends (subst (λ (s : ConnPhase GroupPlace). Steps Calls slot_at old 0 s now input all next phase' new) is does))
-  parted solo phase old now fault input all next phase' new (inr (connected, is, shows)) ends does =
-      later_last solo connected old shows now fault input all next phase' new ends (subst (λ (s : ConnPhase GroupPlace). Steps Calls slot_at old 0 s now input all next phase' new) is does)
+      (first_last capacity opened shares old is_new fits fault input all next phase' new ends (subst (λ (s : ConnPhase GroupPlace). Steps Calls slot_at old 0 s 0 input all next phase' new) is does))
+  parted solo phase old fault input all next phase' new (inr (connected, is, shows)) ends does =
+      later_last solo connected old shows fault input all next phase' new ends (subst (λ (s : ConnPhase GroupPlace). Steps Calls slot_at old 0 s 0 input all next phase' new) is does)
 
   not_waiting : (solo : SoloState) (phase : ConnPhase GroupPlace) (b : Broker) → Shown capacity shares solo phase b → IsWaiting phase → ⊥
   not_waiting solo phase b (inl (opened, is, begins, is_new)) waits = absurd (subst IsWaiting is waits)
@@ -154,13 +168,13 @@ module _ (capacity : ℕ) (shares : List Share) (fits : FitsBroker capacity shar
   alone : (said : StepOutput) (rest : List StepOutput) (later : List Packet) → rest ≡ [] → later ≡ [] → sent_in (said ∷ rest) ++ later ≡ said.packets
   alone said rest later none nothing = (λ i. (said.packets ++ sent_in (none i)) ++ nothing i) ∙ append-nil (said.packets ++ []) ∙ append-nil said.packets
 
-  closes_by : (input : Input) (solo : SoloState) (client client' : ClientState GroupPlace) (old new : Broker) (now : ℕ) (said : StepOutput) (more : List ℕ) (after : List Packet) (last : Broker)
-      → client.conn.number ≡ 0 → client.unread.fault ≡ None → AreBytes (client.unread.bytes ++ more) → Shown capacity shares solo client.conn.phase old
-      → IsInFront client.unread input client'.unread → Closes input said.next → ClientSteps Calls slot_at old client now input said client' new → (client'.conn.phase ≡ phases.Ended → (after ≡ []) × (last ≡ new))
+  closes_by : (input : Input) (solo : SoloState) (client client' : ClientState GroupPlace) (old new : Broker) (said : StepOutput) (more : List ℕ) (after : List Packet) (last : Broker)
+      → client.conn.number ≡ 0 → client.conn.latest ≡ 0 → client.unread.fault ≡ None → AreBytes (client.unread.bytes ++ more) → Shown capacity shares solo client.conn.phase old
+      → IsInFront client.unread input client'.unread → Closes input said.next → ClientSteps Calls slot_at old client 0 input said client' new → (client'.conn.phase ≡ phases.Ended → (after ≡ []) × (last ≡ new))
       → (after ≡ []) × Concluded solo (client.unread.bytes ++ more) said.packets last
-  closes_by (inputs.Packet packet) solo client client' old new now said more after last number sound bytes shown taken closes moved ended =
-      let steps = subst (λ (n : ℕ). Steps Calls slot_at old n client.conn.phase (moment_of client now) (inputs.Packet packet) said.packets said.next client'.conn.phase new) number moved.stepped in
-      let step = stepped solo client.conn.phase old (moment_of client now) packet said.packets said.next client'.conn.phase new shown steps in
+  closes_by (inputs.Packet packet) solo client client' old new said more after last number latest sound bytes shown taken closes moved ended =
+      let steps = step_at_once client client' old new (inputs.Packet packet) said number latest moved in
+      let step = stepped solo client.conn.phase old packet said.packets said.next client'.conn.phase new shown steps in
       ⊎_elim
       (λ (goes : Goes (solo_step packet solo).solo client'.conn.phase said.next new). absurd (closes goes.2))
       (λ (is_over : IsOver (solo_step packet solo).solo client'.conn.phase said.next new).
@@ -171,9 +185,9 @@ module _ (capacity : ℕ) (shares : List Share) (fits : FitsBroker capacity shar
             (one_more solo packet taken.front (client'.unread.bytes ++ more) (client.unread.bytes ++ more) said.packets [] last taken.spelled (in_front client client' packet more taken) step.sent_are rest),
       ))
       step.stands
-  closes_by (inputs.Fault fault) solo client client' old new now said more after last number sound bytes shown stops closes moved ended =
-      let steps = subst (λ (n : ℕ). Steps Calls slot_at old n client.conn.phase (moment_of client now) (inputs.Fault fault) said.packets said.next client'.conn.phase new) number moved.stepped in
-      let part = parted solo client.conn.phase old (moment_of client now) (Some fault) (inputs.Fault fault) said.packets said.next client'.conn.phase new shown refl steps in
+  closes_by (inputs.Fault fault) solo client client' old new said more after last number latest sound bytes shown stops closes moved ended =
+      let steps = step_at_once client client' old new (inputs.Fault fault) said number latest moved in
+      let part = parted solo client.conn.phase old (Some fault) (inputs.Fault fault) said.packets said.next client'.conn.phase new shown refl steps in
       let out = ended part.over in
       let at : FaultAt fault client.unread.bytes =
       ⊎_elim
@@ -182,36 +196,37 @@ module _ (capacity : ℕ) (shares : List Share) (fits : FitsBroker capacity shar
       stops.1 in
       let reads = faulty_stays client.unread.bytes more [] client.unread.bytes fault (front_bytes client.unread.bytes more bytes) (refl, at) in
       (out.0, last_one solo (client.unread.bytes ++ more) (Some fault) said.packets client'.conn.phase last reads (subst (Parted (Some fault) solo said.packets client'.conn.phase) (sym out.1) part))
-  closes_by inputs.Tick solo client client' old new now said more after last number sound bytes shown front closes moved ended = absurd front
-  closes_by inputs.EndOfInput solo client client' old new now said more after last number sound bytes shown front closes moved ended = absurd front
-  closes_by inputs.Closing solo client client' old new now said more after last number sound bytes shown front closes moved ended = absurd front
+  closes_by inputs.Tick solo client client' old new said more after last number latest sound bytes shown front closes moved ended = absurd front
+  closes_by inputs.EndOfInput solo client client' old new said more after last number latest sound bytes shown front closes moved ended = absurd front
+  closes_by inputs.Closing solo client client' old new said more after last number latest sound bytes shown front closes moved ended = absurd front
 
-  pub reads : (said : List StepOutput) (solo : SoloState) (client client' : ClientState GroupPlace) (old new : Broker) (now : ℕ) (more : List ℕ) (later : List Packet) (last : Broker)
-      → client.conn.number ≡ 0 → client.unread.fault ≡ None → AreBytes (client.unread.bytes ++ more) → Shown capacity shares solo client.conn.phase old
-      → Reads Calls slot_at old client now said client' new
-      → ((s : SoloState) → client'.conn.number ≡ 0 → client'.unread.fault ≡ None → IsOpen client'.unread.bytes → AreBytes (client'.unread.bytes ++ more) → Shown capacity shares s client'.conn.phase new
+  pub reads : (said : List StepOutput) (solo : SoloState) (client client' : ClientState GroupPlace) (old new : Broker) (more : List ℕ) (later : List Packet) (last : Broker)
+      → client.conn.number ≡ 0 → client.conn.latest ≡ 0 → client.unread.fault ≡ None → AreBytes (client.unread.bytes ++ more) → Shown capacity shares solo client.conn.phase old
+      → Reads Calls slot_at old client 0 said client' new
+      → ((s : SoloState) → client'.conn.number ≡ 0 → client'.conn.latest ≡ 0 → client'.unread.fault ≡ None → IsOpen client'.unread.bytes → AreBytes (client'.unread.bytes ++ more) → Shown capacity shares s client'.conn.phase new
       → Concluded s (client'.unread.bytes ++ more) later last)
       → (client'.conn.phase ≡ phases.Ended → (later ≡ []) × (last ≡ new))
       → Concluded solo (client.unread.bytes ++ more) (sent_in said ++ later) last
-  reads [] solo client client' old new now more later last number sound bytes shown (inl waits, same, still) goes ended = absurd (not_waiting solo client.conn.phase old shown waits)
-  reads [] solo client client' old new now more later last number sound bytes shown (inr (none, open_), same, still) goes ended =
+  reads [] solo client client' old new more later last number latest sound bytes shown (inl waits, same, still) goes ended = absurd (not_waiting solo client.conn.phase old shown waits)
+  reads [] solo client client' old new more later last number latest sound bytes shown (inr (none, open_), same, still) goes ended =
       subst (λ (c : ClientState GroupPlace). Concluded solo (c.unread.bytes ++ more) later last) same
-      (goes solo (ap (λ (c : ClientState GroupPlace). c.conn.number) same ∙ number) (ap (λ (c : ClientState GroupPlace). c.unread.fault) same ∙ sound)
+      (goes solo (ap (λ (c : ClientState GroupPlace). c.conn.number) same ∙ number) (ap (λ (c : ClientState GroupPlace). c.conn.latest) same ∙ latest)
+      (ap (λ (c : ClientState GroupPlace). c.unread.fault) same ∙ sound)
       (subst (λ (c : ClientState GroupPlace). IsOpen c.unread.bytes) (sym same) open_) (subst (λ (c : ClientState GroupPlace). AreBytes (c.unread.bytes ++ more)) (sym same) bytes)
       (subst (λ (c : ClientState GroupPlace). Shown capacity shares solo c.conn.phase new) (sym same) (subst (Shown capacity shares solo client.conn.phase) (sym still) shown)))
-  reads (said ∷ rest) solo client client' old new now more later last number sound bytes shown (inl (does, none)) goes ended =
-      let got = closes_by does.input solo client client' old new now said more later last number sound bytes shown does.front does.closes does.moved ended in
+  reads (said ∷ rest) solo client client' old new more later last number latest sound bytes shown (inl (does, none)) goes ended =
+      let got = closes_by does.input solo client client' old new said more later last number latest sound bytes shown does.front does.closes does.moved ended in
       subst (λ (l : List Packet). Concluded solo (client.unread.bytes ++ more) l last) (sym (alone said rest later none got.0)) got.1
-  reads (said ∷ rest) solo client client' old new now more later last number sound bytes shown (inr (between, mid, does, behind)) goes ended =
+  reads (said ∷ rest) solo client client' old new more later last number latest sound bytes shown (inr (between, mid, does, behind)) goes ended =
       let packet = does.packet in
-      let steps = subst (λ (n : ℕ). Steps Calls slot_at old n client.conn.phase (moment_of client now) (inputs.Packet packet) said.packets said.next between.conn.phase mid) number does.moved.stepped in
-      let step = stepped solo client.conn.phase old (moment_of client now) packet said.packets said.next between.conn.phase mid shown steps in
+      let steps = step_at_once client between old mid (inputs.Packet packet) said number latest does.moved in
+      let step = stepped solo client.conn.phase old packet said.packets said.next between.conn.phase mid shown steps in
       let left = does.taken.front in
       ⊎_elim
       (λ (goes_on : Goes (solo_step packet solo).solo between.conn.phase said.next mid).
       let connected = goes_on.0 in
       let rest_of =
-      reads rest (solo_step packet solo).solo between client' mid new now more later last (does.moved.same ∙ number) does.taken.goes_on (left_bytes client between packet more does.taken bytes)
+      reads rest (solo_step packet solo).solo between client' mid new more later last (does.moved.same ∙ number) (does.moved.latest ∙ now_at_once client latest) does.taken.goes_on (left_bytes client between packet more does.taken bytes)
       (inr (connected, goes_on.1, goes_on.3)) behind goes ended in
       subst (λ (l : List Packet). Concluded solo (client.unread.bytes ++ more) l last) (sym (append_assoc said.packets (sent_in rest) later))
       (one_more solo packet left (between.unread.bytes ++ more) (client.unread.bytes ++ more) said.packets (sent_in rest ++ later) last does.taken.spelled (in_front client between packet more does.taken) step.sent_are rest_of))
@@ -283,23 +298,30 @@ module _ (capacity : ℕ) (shares : List Share) (fits : FitsBroker capacity shar
   fed_is : (client : ClientState GroupPlace) (piece : List ℕ) → client.unread.fault ≡ None → (fed client piece).unread ≡ record { bytes = client.unread.bytes ++ piece; fault = None }
   fed_is client piece sound = ap (λ (f : Option StreamFault). longer f client.unread.bytes piece) sound
 
-  walk : (pieces : List (List ℕ)) (solo : SoloState) (client : ClientState GroupPlace) (old last : ServerState) (said : List StepOutput) → HasCell (Some client) old → client.conn.number ≡ 0 → client.unread.fault ≡ None → IsOpen client.unread.bytes
+  walk : (pieces : List (List ℕ)) (solo : SoloState) (client : ClientState GroupPlace) (old last : ServerState) (said : List StepOutput) → HasCell (Some client) old → old.clock ≡ 0 → client.conn.number ≡ 0 → client.conn.latest ≡ 0
+      → client.unread.fault ≡ None → IsOpen client.unread.bytes
       → AreBytes (client.unread.bytes ++ whole pieces) → Shown capacity shares solo client.conn.phase old.broker → HappensAll old (all_pieces pieces) said last
       → Concluded solo (client.unread.bytes ++ whole pieces) (sent_in said) last.broker
-  walk [] solo client old last said cell number sound open_ bytes shown (mid, now, later, happens, (none, same), all) =
-      let does = subst (λ (b : Bool). DoesIf b (End 0) old.max_inflight old.broker old.clients mid.clock now (Ok tt) mid.clients mid.broker) (shown_open solo client.conn.phase old.broker shown) happens.does in
+  walk [] solo client old last said cell clock number latest sound open_ bytes shown (mid, now, later, happens, (none, same), all) =
+      let clock' = clock_at_once old mid clock happens.clock in
+      let does =
+      subst (λ (n : ℕ). DoesIf true (End 0) old.max_inflight old.broker old.clients n now (Ok tt) mid.clients mid.broker) clock'
+      (subst (λ (b : Bool). DoesIf b (End 0) old.max_inflight old.broker old.clients mid.clock now (Ok tt) mid.clients mid.broker) (shown_open solo client.conn.phase old.broker shown) happens.does) in
       let got = (in_cell old.clients mid.clients _ (Some client) cell does).1 in
       let one = got.1.0 in
       let moved = got.1.2 in
-      let steps = subst (λ (n : ℕ). Steps Calls slot_at old.broker n client.conn.phase (moment_of client mid.clock) inputs.EndOfInput one.packets one.next got.0.conn.phase mid.broker) number moved.stepped in
-      let part = parted capacity shares fits solo client.conn.phase old.broker (moment_of client mid.clock) None inputs.EndOfInput one.packets one.next got.0.conn.phase mid.broker shown tt steps in
+      let steps = step_at_once client got.0 old.broker mid.broker inputs.EndOfInput one number latest moved in
+      let part = parted capacity shares fits solo client.conn.phase old.broker None inputs.EndOfInput one.packets one.next got.0.conn.phase mid.broker shown tt steps in
       let sent : sent_in said ≡ one.packets = ap sent_in (all ∙ (λ i. got.1.1 i ++ none i)) ∙ append-nil one.packets in
       let ended = last_one solo client.unread.bytes None one.packets got.0.conn.phase mid.broker (refl, open_) part in
       subst (λ (l : List ℕ). Concluded solo l (sent_in said) last.broker) (sym (append-nil client.unread.bytes))
       (subst (λ (l : List Packet). Concluded solo client.unread.bytes l last.broker) (sym sent)
       (subst (λ (s : ServerState). Concluded solo client.unread.bytes one.packets s.broker) (sym same) ended))
-  walk (piece ∷ pieces) solo client old last said cell number sound open_ bytes shown (mid, now, later, happens, others, all) =
-      let does = subst (λ (b : Bool). DoesIf b (Bytes 0 piece) old.max_inflight old.broker old.clients mid.clock now (Ok tt) mid.clients mid.broker) (shown_open solo client.conn.phase old.broker shown) happens.does in
+  walk (piece ∷ pieces) solo client old last said cell clock number latest sound open_ bytes shown (mid, now, later, happens, others, all) =
+      let clock' = clock_at_once old mid clock happens.clock in
+      let does =
+      subst (λ (n : ℕ). DoesIf true (Bytes 0 piece) old.max_inflight old.broker old.clients n now (Ok tt) mid.clients mid.broker) clock'
+      (subst (λ (b : Bool). DoesIf b (Bytes 0 piece) old.max_inflight old.broker old.clients mid.clock now (Ok tt) mid.clients mid.broker) (shown_open solo client.conn.phase old.broker shown) happens.does) in
       let cell_of = in_cell old.clients mid.clients _ (Some client) cell does in
       let client' = cell_of.1.0 in
       let now_read = cell_of.1.1 in
@@ -308,9 +330,10 @@ module _ (capacity : ℕ) (shares : List Share) (fits : FitsBroker capacity shar
       let longer_bytes : (fed client piece).unread.bytes ++ whole pieces ≡ client.unread.bytes ++ whole (piece ∷ pieces) =
       ap (λ (u : Unread). u.bytes ++ whole pieces) unread ∙ append_assoc client.unread.bytes piece (whole pieces) in
       let got =
-      reads capacity shares fits now solo (fed client piece) client' old.broker mid.broker mid.clock (whole pieces) (sent_in later) last.broker number (ap (λ (u : Unread). u.fault) unread)
+      reads capacity shares fits now solo (fed client piece) client' old.broker mid.broker (whole pieces) (sent_in later) last.broker number latest (ap (λ (u : Unread). u.fault) unread)
       (subst AreBytes (sym longer_bytes) bytes) shown now_read
-      (λ s number' sound' open' bytes' shown'. walk pieces s client' mid last later (there ∙ ap (λ (c : Option (ClientState GroupPlace)). Some c) (kept_shown s client' mid.broker shown')) number' sound' open' bytes' shown' others)
+      (λ s number' latest' sound' open' bytes' shown'.
+      walk pieces s client' mid last later (there ∙ ap (λ (c : Option (ClientState GroupPlace)). Some c) (kept_shown s client' mid.broker shown')) clock' number' latest' sound' open' bytes' shown' others)
       (λ ended. idle pieces mid last later (there ∙ ap (λ (c : Option (ClientState GroupPlace)). Some c) (kept_ended client' ended)) others) in
       let sent : sent_in said ≡ sent_in now ++ sent_in later = ap sent_in all ∙ flat_map-append (λ (one : StepOutput). one.packets) now later in
       subst (λ (l : List ℕ). Concluded solo l (sent_in said) last.broker) longer_bytes
@@ -328,16 +351,17 @@ module _ (capacity : ℕ) (shares : List Share) (fits : FitsBroker capacity shar
   no_byte = inl refl
 
   -- from the opening of the connection on
-  pub run : (pieces : List (List ℕ)) (first last : ServerState) (said : List StepOutput) → IsNewBroker capacity shares first.broker → first.clients ≡ replicate 64 None → AreBytes (whole pieces)
+  pub run : (pieces : List (List ℕ)) (first last : ServerState) (said : List StepOutput) → IsNewBroker capacity shares first.broker → first.clients ≡ replicate 64 None → first.clock ≡ 0 → AreBytes (whole pieces)
       → HappensAll first (at_once (Open 0) ∷ all_pieces pieces) said last → Concluded (opening capacity first.max_inflight shares) (whole pieces) (sent_in said) last.broker
-  run pieces first last said is_new none bytes (mid, now, later, happens, others, all) =
+  run pieces first last said is_new none clock bytes (mid, now, later, happens, others, all) =
       let is_open_now = open_is (opening capacity first.max_inflight shares) [] first.broker (opens capacity first.max_inflight shares first.broker fits is_new) in
       let does = subst (λ (b : Bool). DoesIf b (Open 0) first.max_inflight first.broker first.clients mid.clock now (Ok tt) mid.clients mid.broker) is_open_now happens.does in
       let cell : slice_get first.clients 0 ≡ Some None = ap (λ (l : Clients). slice_get l 0) none ∙ first_none 64 (omega arith) in
       let got = in_cell first.clients mid.clients _ None cell does.0 in
+      let clock' = clock_at_once first mid clock happens.clock in
       let opened : Opening = record { at = mid.clock; max_inflight = first.max_inflight } in
       let client : ClientState GroupPlace = arrived (record { number = 0; latest = mid.clock; phase = phases.Unconnected opened }) in
       let there : slice_get mid.clients 0 ≡ Some (Some client) = got.2 ∙ ap (λ (c : Option (ClientState GroupPlace)). Some c) got.1 in
       let sent : sent_in said ≡ sent_in later = ap sent_in (all ∙ ap (λ (l : List StepOutput). l ++ later) does.2) in
       subst (λ (l : List Packet). Concluded (opening capacity first.max_inflight shares) (whole pieces) l last.broker) (sym sent)
-      (walk pieces (opening capacity first.max_inflight shares) client mid last later there refl refl no_byte bytes (inl (opened, refl, refl, subst (IsNewBroker capacity shares) (sym does.1) is_new)) others)
+      (walk pieces (opening capacity first.max_inflight shares) client mid last later there clock' refl clock' refl no_byte bytes (inl (opened, refl, refl, subst (IsNewBroker capacity shares) (sym does.1) is_new)) others)

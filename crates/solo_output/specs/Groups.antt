@@ -11,7 +11,7 @@ pub record Bound : Type 0 where
   pub share : Share
   pub accepted : List Message
 
--- what became of a hand-out: no PUBACK came, or one came with this Reason Code (3.4.2.1); or it was not sent, but discarded (3.1.2.11.4)
+-- what became of a hand-out: no PUBACK came, or one came with this Reason Code (3.4.2.1); or it was not sent, but discarded (3.1.2.11.4, 3.3.2.3.3)
 pub data Outcome : Type 0 where
   Unacknowledged : Outcome
   Acknowledged : ℕ → Outcome

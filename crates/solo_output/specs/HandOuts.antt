@@ -1,11 +1,12 @@
--- Which messages go out after a reply, and under which identifiers (sections 2.2.1, 3.1.2.11.4, 3.3.2.3.8, 4.6, 4.8.2 and 4.9).
+-- Which messages go out after a reply, and under which identifiers (sections 2.2.1, 3.1.2.11.4, 3.3.2.3.3, 3.3.2.3.8, 4.6, 4.8.2 and 4.9).
 use Rattle.std.specs.Prelude.{ℕ, zero, suc, ◌+◌, ◌==◌, nat_lt, min, Bool, true, false, if◌then◌else◌, List, [], ◌∷◌, ◌++◌, length}
 use Rattle.std.specs.List.{list_any}
 use Rattle.mqtt_packet.specs.declared.packet.Packet.{Packet}
 use Rattle.group_jobs.specs.declared.message.Message.{Message}
 use Rattle.session_desk.specs.declared.session.Membership.{Membership}
 use Rattle.session_desk.specs.declared.session.Membership.TheVariants.{NotMember, Member, Leaving}
-use Rattle.conn_rules.specs.HandOuts.{is_big}
+use Rattle.conn_rules.specs.declared.hand_outs.HandOutTerms.{HandOutTerms}
+use Rattle.conn_rules.specs.HandOuts.{is_discarded}
 use Rattle.conn_rules.specs.Packets.{job}
 use Rattle.solo_output.specs.Groups.{SoloState, Phase, HandOut, Outcome, unacknowledged, waiting_in, with_hand_out, with_membership}
 use Rattle.solo_output.specs.Groups.Outcome.{Unacknowledged, Discarded}
@@ -28,9 +29,10 @@ free_from (suc more) identifier used = if list_any (λ other. other == identifie
 abbrev pub least_free : List ℕ → ℕ
 least_free used = free_from (length used) 1 used
 
--- 3.1.2.11.4: the client is not to be sent a message, as its PUBLISH is longer than the Maximum Packet Size of the CONNECT, if that named one
-abbrev pub is_unfit : Message → SoloState → Bool
-is_unfit message solo = is_big solo.terms.maximum_packet_size solo.subscription message
+-- what the client is sent its messages under, all at the moment 0: its Subscription Identifier (3.3.2.3.8), and the Maximum Packet Size of the CONNECT, if that
+-- named one (3.1.2.11.4)
+abbrev pub terms_in : SoloState → HandOutTerms
+terms_in solo = record { at = 0; subscription = solo.subscription; maximum_packet_size = solo.terms.maximum_packet_size }
 
 -- packets that are sent, and the model after them
 pub record SoloStep : Type 0 where
@@ -51,7 +53,7 @@ outcome_of false = Unacknowledged
 -- the next hand-out of this slot has the client's Subscription Identifier, and the least Packet Identifier that is free
 abbrev pub next_hand_out : ℕ → Message → SoloState → HandOut
 next_hand_out slot message solo =
-    record { slot = slot; subscription = solo.subscription; identifier = least_free (unacknowledged solo); outcome = outcome_of (is_unfit message solo) }
+    record { slot = slot; subscription = solo.subscription; identifier = least_free (unacknowledged solo); outcome = outcome_of (is_discarded (terms_in solo) message) }
 
 -- a packet is sent, unless its message is discarded
 abbrev pub packets_unless : Bool → Packet → List Packet
@@ -60,7 +62,7 @@ packets_unless false packet = packet ∷ []
 
 -- what is sent of it
 abbrev pub next_packets : Message → SoloState → List Packet
-next_packets message solo = packets_unless (is_unfit message solo) (job false message solo.subscription (least_free (unacknowledged solo)))
+next_packets message solo = packets_unless (is_discarded (terms_in solo) message) (job 0 false message solo.subscription (least_free (unacknowledged solo)))
 
 -- while the quota has room, the messages that wait in a group are handed out, the oldest first
 abbrev pub hand_out : ℕ → List Message → SoloState → SoloStep

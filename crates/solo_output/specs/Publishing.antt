@@ -47,15 +47,14 @@ offer_to [] message solo = record { taken = 0; solo = solo }
 offer_to (slot ∷ slots) message solo =
     if is_full slot solo then offer_to slots message solo else taken_too (offer_to slots message (with_message slot message solo))
 
--- 3.4.2.1: the PUBACK says how many groups matched and how many of them took the message
+-- 3.4.2.1: its message came at the moment 0, and the PUBACK says how many groups matched and how many of them took the message
 abbrev pub offer_reply : ℕ → Publish → SoloState → Reply
 offer_reply identifier publish solo =
-    answering (puback identifier (puback_code (length (matching publish.topic solo)) (offer_to (matching publish.topic solo) (message_of publish) solo).taken))
-    (offer_to (matching publish.topic solo) (message_of publish) solo).solo
+    answering (puback identifier (puback_code (length (matching publish.topic solo)) (offer_to (matching publish.topic solo) (message_of 0 publish) solo).taken))
+    (offer_to (matching publish.topic solo) (message_of 0 publish) solo).solo
 
 abbrev pub publish_reply_as : PublishAnswer → Publish → SoloState → Reply
 publish_reply_as (answers.Close code) publish solo = closing (Some (disconnect code)) solo
-publish_reply_as (answers.Refuse identifier code) publish solo = answering (puback identifier code) solo
 publish_reply_as (answers.Offer identifier) publish solo = offer_reply identifier publish solo
 
 abbrev pub publish_reply : Publish → SoloState → Reply

@@ -34,9 +34,8 @@ takers topic solo = filter (λ slot. not (is_full slot solo)) (matching topic so
 -- the message of a PUBLISH that is offered, where the group of this slot takes it
 abbrev pub taken_of_offer : PublishAnswer → ℕ → Publish → SoloState → List Message
 taken_of_offer (answers.Close code) slot publish solo = []
-taken_of_offer (answers.Refuse identifier code) slot publish solo = []
 taken_of_offer (answers.Offer identifier) slot publish solo =
-    if list_any (λ taker. taker == slot) (takers publish.topic solo) then message_of publish ∷ [] else []
+    if list_any (λ taker. taker == slot) (takers publish.topic solo) then message_of 0 publish ∷ [] else []
 
 -- what it takes of a packet of a client that is connected
 abbrev pub taken_of_packet : Packet → ℕ → SoloState → List Message
@@ -74,7 +73,7 @@ sent_in slot packets hand_outs = map (λ pair. pair.0) (filter (λ pair. pair.1.
 -- messages as they go out (DUP 0), the first under the identifiers of the first hand-out, and so on, as far as both lists go; what is discarded does
 -- not go out
 abbrev pub jobs_of : List Message → List HandOut → List Packet
-jobs_of messages hand_outs = map (λ pair. job false pair.0 pair.1.subscription pair.1.identifier) (filter (λ pair. was_sent pair.1) (zip messages hand_outs))
+jobs_of messages hand_outs = map (λ pair. job 0 false pair.0 pair.1.subscription pair.1.identifier) (filter (λ pair. was_sent pair.1) (zip messages hand_outs))
 
 -- ---- whose a hand-out is, and what settles it
 

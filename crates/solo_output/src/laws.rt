@@ -19,7 +19,7 @@ ghost use Rattle.local_group.specs.Groups.{life};
 ghost use Rattle.session_desk.specs.declared.session.Membership.TheVariants.{NotMember, Member, Leaving};
 ghost use Rattle.conn_rules.specs.declared.publishing.PublishAnswer.TheVariants.{Offer};
 ghost use Rattle.conn_rules.specs.Connecting.{or_else};
-ghost use Rattle.conn_rules.specs.HandOuts.{is_big};
+ghost use Rattle.conn_rules.specs.HandOuts.{is_discarded};
 ghost use Rattle.conn_rules.specs.Packets.{puback};
 ghost use Rattle.conn_rules.specs.Publishing.{publish_answer, puback_code};
 ghost use Rattle.conn_rules.specs.Setups.{most_capacity};
@@ -79,8 +79,8 @@ pub fn identifier_law()
 /// - `in_order`: the PUBLISH packets that were sent are one for each hand-out that was not discarded, and those of a group are its first accepted
 ///   messages, without the discarded ones, in order, each under the Packet Identifier and the Subscription Identifier of its hand-out, with DUP 0. So
 ///   none goes out twice, and none before an older one (4.6).
-/// - `discarded`: a hand-out is discarded exactly where the PUBLISH of its message, under its Subscription Identifier, is longer than the Maximum
-///   Packet Size of the CONNECT; where that has none, none is (3.1.2.11.4).
+/// - `discarded`: a hand-out is discarded exactly where its message came with the Message Expiry Interval 0, as all happens at one moment (3.3.2.3.3), or
+///   where its PUBLISH, under its Subscription Identifier, is longer than the Maximum Packet Size of the CONNECT, if that has one (3.1.2.11.4).
 /// - `members`: what a packet brings out goes to a member of its group, under the Subscription Identifier that the client has then, or none
 ///   (3.3.2.3.8), and the least Packet Identifier that is free by then; what is discarded uses none. `one_group`: what is
 ///   unacknowledged is of the one group whose member the client is, or which it is leaving (profile); `bound`: that group is there.
@@ -117,7 +117,8 @@ pub fn every_run_is_lawful()
     ensures discarded { (setup : Setup) (connect : Connect) (packets : List Packet) (slot place : ℕ) (message : Message) (one : HandOut) →
         let solo = (run_of setup (kinds.Connect connect ∷ packets)).solo in
         slice_get (accepted_in slot solo.groups) place ≡ Some message → slice_get (handed_in slot solo.handed_out) place ≡ Some one →
-        (one.outcome ≡ Discarded) ↔ (is_big connect.properties.maximum_packet_size one.subscription message ≡ true) }
+        (one.outcome ≡ Discarded)
+        ↔ (is_discarded (record { at = 0; subscription = one.subscription; maximum_packet_size = connect.properties.maximum_packet_size }) message ≡ true) }
     ensures members { (setup : Setup) (packets : List Packet) (packet : Packet) (place : ℕ) (one : HandOut) →
         let solo = (run_of setup packets).solo in let next = (solo_step packet solo).solo in
         length solo.handed_out ≤ place → slice_get next.handed_out place ≡ Some one →

@@ -118,24 +118,24 @@ module _ (measure : PlaceState → ℕ) where
           → Balances measure supply.desk (has_in (phase_of old)) 0 (sum_by gain calls) supply'.desk → BalancesService old supply calls new supply'
       over calls old new supply supply' ended balances = subst (λ n. Balances measure supply.desk (has_in (phase_of old)) n (sum_by gain calls) supply'.desk) (sym (ap has_in ended)) balances
 
-      failed : (input : Input) (calls : List (SupplyCall PlaceState)) (old new : ServiceState PlaceState T) (supply supply' : Worker) → AreOfFailure group seen input old supply calls new supply' → AreWithin supply.desk
+      failed : (now : ℕ) (input : Input) (calls : List (SupplyCall PlaceState)) (old new : ServiceState PlaceState T) (supply supply' : Worker) → AreOfFailure group seen now input old supply calls new supply' → AreWithin supply.desk
           → BalancesService old supply calls new supply'
-      failed input calls old new supply supply' asked within =
+      failed now input calls old new supply supply' asked within =
           let step = asked.0 in
           with_calls calls step.supply_calls old new supply supply' asked.1
           (over step.supply_calls old new supply supply' asked.2 (step_balances step.supply_calls supply supply' (own_places (phase_of old)) [] step.made step.places within))
 
-      stepped : (input : Input) (sent : List Packet) (next : Then) (calls : List (SupplyCall PlaceState)) (old new : ServiceState PlaceState T) (supply supply' : Worker)
-          → AreOfStep group seen input sent next old supply calls new supply' → AreWithin supply.desk → BalancesService old supply calls new supply'
-      stepped input sent next calls old new supply supply' asked within =
+      stepped : (now : ℕ) (input : Input) (sent : List Packet) (next : Then) (calls : List (SupplyCall PlaceState)) (old new : ServiceState PlaceState T) (supply supply' : Worker)
+          → AreOfStep group seen now input sent next old supply calls new supply' → AreWithin supply.desk → BalancesService old supply calls new supply'
+      stepped now input sent next calls old new supply supply' asked within =
           let step = asked.0 in
           with_calls calls step.supply_calls old new supply supply' asked.1
           (step_balances step.supply_calls supply supply' (own_places (phase_of old)) (own_places (phase_of new)) step.made step.places within)
 
-      the_last : (calls : List (SupplyCall PlaceState)) (old new : ServiceState PlaceState T) (supply supply' : Worker) → AreOfLastStep group seen old supply calls new supply' → AreWithin supply.desk
+      the_last : (now : ℕ) (calls : List (SupplyCall PlaceState)) (old new : ServiceState PlaceState T) (supply supply' : Worker) → AreOfLastStep group seen now old supply calls new supply' → AreWithin supply.desk
           → BalancesService old supply calls new supply'
-      the_last calls old new supply supply' (none, inl asked) within = stepped inputs.EndOfInput [] asked.0 calls old new supply supply' asked.1 within
-      the_last calls old new supply supply' (none, inr asked) within = failed inputs.EndOfInput calls old new supply supply' asked within
+      the_last now calls old new supply supply' (none, inl asked) within = stepped now inputs.EndOfInput [] asked.0 calls old new supply supply' asked.1 within
+      the_last now calls old new supply supply' (none, inr asked) within = failed now inputs.EndOfInput calls old new supply supply' asked within
 
       -- one at the transport
       at_edge : (calls : List (SupplyCall PlaceState)) (old new : ServiceState PlaceState T) (supply supply' : Worker) → calls ≡ [] → supply' ≡ supply → new.client ≡ old.client → AreWithin supply.desk
@@ -158,14 +158,14 @@ module _ (measure : PlaceState → ℕ) where
           quiet calls old new supply supply' none (ap (λ (w : Worker). w.desk) does.same)
           (ap (λ (s : ServiceState PlaceState T). phase_of s) does.does.becomes ∙ fed_phase its old.client bytes) within
       acted (Writes at put) calls old new supply supply' does none within = at_edge calls old new supply supply' none does.same (ap (λ (s : ServiceState PlaceState T). s.client) does.does.becomes) within
-      acted (Steps at input sent next) calls old new supply supply' does asked within = stepped input sent next calls old new supply supply' asked within
-      acted (Loses at input sent next) calls old new supply supply' does asked within = stepped input sent next calls old new supply supply' asked within
-      acted (Fails at input) calls old new supply supply' does asked within = failed input calls old new supply supply' asked within
+      acted (Steps at input sent next) calls old new supply supply' does asked within = stepped at input sent next calls old new supply supply' asked within
+      acted (Loses at input sent next) calls old new supply supply' does asked within = stepped at input sent next calls old new supply supply' asked within
+      acted (Fails at input) calls old new supply supply' does asked within = failed at input calls old new supply supply' asked within
       acted (Starves its bytes) calls old new supply supply' does none within = at_edge calls old new supply supply' none does.same (ap (λ (s : ServiceState PlaceState T). s.client) does.does.becomes) within
-      acted (IsFull at) calls old new supply supply' does asked within = the_last calls old new supply supply' asked within
+      acted (IsFull at) calls old new supply supply' does asked within = the_last at calls old new supply supply' asked within
       acted IsStopped calls old new supply supply' does none within = at_edge calls old new supply supply' none does.same (ap (λ (s : ServiceState PlaceState T). s.client) does.does.becomes) within
       acted (Stalls at) calls old new supply supply' does none within = at_edge calls old new supply supply' none does.same (ap (λ (s : ServiceState PlaceState T). s.client) does.does.becomes) within
-      acted (GivesUp at) calls old new supply supply' does asked within = the_last calls old new supply supply' asked within
+      acted (GivesUp at) calls old new supply supply' does asked within = the_last at calls old new supply supply' asked within
       acted Ends calls old new supply supply' does none within = at_edge calls old new supply supply' none does.same (ap (λ (s : ServiceState PlaceState T). s.client) does.does.becomes) within
       acted Others calls old new supply supply' does asked within = absurd asked
 

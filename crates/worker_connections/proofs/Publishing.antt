@@ -1,9 +1,7 @@
 -- What comes into the ports of a worker, call by call, step by step, and over its run.
-use Rattle.std.proofs.Common.{◌≡◌, ◌≢◌, ◌⊎◌, ℕ, ◌<◌, ◌≤◌, if◌then◌else◌, Bool, true, false, List, [], ◌∷◌, ◌++◌, length, Option, Some, None, Result, Err, is_some, refl, sym, ap, subst, ◌∙◌, inl, inr, ⊎_elim, append-nil, arith}
+use Rattle.std.proofs.Common.{◌≡◌, ◌≢◌, ◌⊎◌, ℕ, ◌<◌, Bool, true, false, List, [], ◌∷◌, ◌++◌, length, Option, Some, None, Result, Err, refl, sym, ap, subst, ◌∙◌, inl, inr, ⊎_elim, append-nil}
 use Rattle.std.specs.List.{cons_option}
 use Rattle.std.specs.Option.{option_to_list}
-use Rattle.mqtt_packet.specs.declared.packet.Delivery.{Delivery}
-use Rattle.mqtt_packet.specs.declared.packet.Delivery.TheVariants.{AtMostOnce, AtLeastOnce, ExactlyOnce}
 use Rattle.mqtt_packet.specs.declared.packet.Packet.{Packet}
 use Rattle.mqtt_packet.specs.declared.packet.Packet.TheVariants as packets
 use Rattle.mqtt_packet.specs.declared.packet.Publish.{Publish}
@@ -22,7 +20,7 @@ use Rattle.conn_rules.specs.declared.publishing.PublishAnswer.{PublishAnswer}
 use Rattle.conn_rules.specs.declared.publishing.PublishAnswer.TheVariants as answers
 use Rattle.conn_rules.specs.Connecting.{first_answer}
 use Rattle.conn_rules.specs.Packets.{puback}
-use Rattle.conn_rules.specs.Publishing.{publish_answer, delivery_answer, identified_answer, closing_code, puback_code, message_of}
+use Rattle.conn_rules.specs.Publishing.{publish_answer, puback_code, message_of}
 use Rattle.conn_supply.specs.declared.reply.Reply.{Reply}
 use Rattle.conn_supply.specs.declared.reply.Then.{Then}
 use Rattle.conn_supply.specs.declared.reply.Then.TheVariants.{Go, Close, Kicked as TakenOver}
@@ -60,25 +58,6 @@ none_found (Some x) rest none = absurd (cc none)
 
 abbrev slot_of : PlaceState → ℕ
 slot_of place = place.group
-
--- a PUBLISH that is refused before any group is asked is refused with 83
-refused_at : (expires : Bool) (identifier other code : ℕ) → (if expires then answers.Refuse identifier 0x83 else answers.Offer identifier) ≡ answers.Refuse other code → 0x80 ≤ code
-refused_at true identifier other code is = let same : 0x83 ≡ code = cc is in omega (arith, same)
-refused_at false identifier other code is = absurd (cc is)
-
-refused_by : (closing : Option ℕ) (identifier other code : ℕ) (publish : Publish) → identified_answer closing identifier publish ≡ answers.Refuse other code → 0x80 ≤ code
-refused_by (Some closing) identifier other code publish is = absurd (cc is)
-refused_by None identifier other code publish is = refused_at (is_some publish.message_expiry_interval) identifier other code is
-
-refused_with : (delivery : Delivery) (other code : ℕ) (publish : Publish) → delivery_answer delivery publish ≡ answers.Refuse other code → 0x80 ≤ code
-refused_with (AtLeastOnce identifier) other code publish is = refused_by (closing_code publish) identifier other code publish is
-refused_with AtMostOnce other code publish is = absurd (cc is)
-refused_with (ExactlyOnce identifier) other code publish is = absurd (cc is)
-
--- the Reason Code of a PUBACK
-abbrev code_of : Packet → ℕ
-code_of (packets.Puback puback) = puback.reason_code
-code_of _ = 0
 
 module _ (group : ℕ → GroupId) (seen : Sights) where
   missed_ports : (is_missed : Bool) (worker : Worker) → (missing is_missed worker).ports ≡ worker.ports
@@ -153,9 +132,9 @@ module _ (group : ℕ → GroupId) (seen : Sights) where
   asked_of_desk number answer old new (inr told) = ap publisher_of told.1
 
   -- what a PUBLISH made of the ports, and its reply
-  abbrev RepliesTo : Publish → PublisherState → ConnPhase PlaceState → Reply → PublisherState → Type 0
-  RepliesTo publish old between reply new =
-      ((identifier : ℕ) × (publish_answer publish ≡ answers.Offer identifier) × (taken : ℕ) × PutsInto group seen old.ports (message_of publish) (slots_matched old publish) taken new.ports
+  abbrev RepliesTo : ℕ → Publish → PublisherState → ConnPhase PlaceState → Reply → PublisherState → Type 0
+  RepliesTo now publish old between reply new =
+      ((identifier : ℕ) × (publish_answer publish ≡ answers.Offer identifier) × (taken : ℕ) × PutsInto group seen old.ports (message_of now publish) (slots_matched old publish) taken new.ports
       × (reply ≡ acknowledging identifier (puback_code (length (slots_matched old publish)) taken)))
       ⊎ ((new.ports ≡ old.ports) × IsNoPromise reply.packet between)
 
@@ -167,7 +146,7 @@ module _ (group : ℕ → GroupId) (seen : Sights) where
   over reply between is ended = subst (λ (it : Option Packet). IsNoPromise it between) (sym is) ended
 
   first_answered : (answer : FirstAnswer) (old new : Worker) (number max_inflight now : ℕ) (publish : Publish) (between : ConnPhase PlaceState) (reply : Reply)
-      → AnswersFirst (Calls group seen) slot_of answer old number max_inflight now (packets.Publish publish) between reply new → RepliesTo publish (publisher_of old) between reply (publisher_of new)
+      → AnswersFirst (Calls group seen) slot_of answer old number max_inflight now (packets.Publish publish) between reply new → RepliesTo now publish (publisher_of old) between reply (publisher_of new)
   first_answered first.Close old new number max_inflight now publish between reply is =
       inr (ap (λ (w : Worker). w.ports) is.1, over reply between (ap (λ (r : Reply). r.packet) is.0.told) is.0.over)
   first_answered (first.Refuse refusal) old new number max_inflight now publish between reply is =
@@ -180,19 +159,14 @@ module _ (group : ℕ → GroupId) (seen : Sights) where
   concluded Close old new connected now phase concludes = plain old new (parted (Calls group seen) old new connected.session now concludes.0)
   concluded TakenOver old new connected now phase concludes = plain old new (parted (Calls group seen) old new connected.session now concludes.0)
 
-  published : (answer : PublishAnswer) (old mid new : Worker) (number : ℕ) (publish : Publish) (between : ConnPhase PlaceState) (reply : Reply) → publish_answer publish ≡ answer
-      → AnswersPublish (Calls group seen) old number publish answer reply mid → new.ports ≡ mid.ports → RepliesTo publish (publisher_of old) between reply (publisher_of new)
-  published (answers.Close code) old mid new number publish between reply answered is kept =
+  published : (answer : PublishAnswer) (old mid new : Worker) (number now : ℕ) (publish : Publish) (between : ConnPhase PlaceState) (reply : Reply) → publish_answer publish ≡ answer
+      → AnswersPublish (Calls group seen) old number now publish answer reply mid → new.ports ≡ mid.ports → RepliesTo now publish (publisher_of old) between reply (publisher_of new)
+  published (answers.Close code) old mid new number now publish between reply answered is kept =
       inr (kept ∙ ap (λ (w : Worker). w.ports) is.1, silent reply _ between (ap (λ (r : Reply). r.packet) is.0) (λ identifier code few same. cc same))
-  published (answers.Refuse other code) old mid new number publish between reply answered is kept =
-      inr (
-        kept ∙ ap (λ (w : Worker). w.ports) is.1,
-        silent reply (puback other code) between (ap (λ (r : Reply). r.packet) is.0) (λ identifier promised few same. let told : code ≡ promised = ap code_of same in absurd (omega (arith, few, refused_with publish.delivery other code publish answered, told))),
-      )
-  published (answers.Offer identifier) old mid new number publish between reply answered is kept =
-      let Puts : List ℕ → List PortState → List PortState → Type 0 = λ slots ports ports'. PutsInto group seen ports (message_of publish) slots is.taken ports' in
+  published (answers.Offer identifier) old mid new number now publish between reply answered is kept =
+      let Puts : List ℕ → List PortState → List PortState → Type 0 = λ slots ports ports'. PutsInto group seen ports (message_of now publish) slots is.taken ports' in
       let Told : List ℕ → Type 0 = λ slots. Puts slots old.ports new.ports × (reply ≡ acknowledging identifier (puback_code (length slots) is.taken)) in
-      let puts = all_put is.slots number (message_of publish) is.taken is.mid mid is.offered in
+      let puts = all_put is.slots number (message_of now publish) is.taken is.mid mid is.offered in
       let from_old = subst (λ (ports : List PortState). Puts is.slots ports mid.ports) (ap (λ (w : Worker). w.ports) is.matched.1) puts in
       let to_new = subst (λ (ports : List PortState). Puts is.slots old.ports ports) (sym kept) from_old in
       let told = subst Told is.matched.0 (to_new, is.replied) in
@@ -200,43 +174,43 @@ module _ (group : ℕ → GroupId) (seen : Sights) where
 
   packet_answered : (was_kicked : Bool) (old new : Worker) (number now : ℕ) (connected : ConnectedClient PlaceState) (publish : Publish) (between : ConnPhase PlaceState) (reply : Reply)
       → AnswersUnlessKicked (Calls group seen) slot_of was_kicked old connected now (AnswersPacket (Calls group seen) slot_of old number connected now (packets.Publish publish)) between reply new
-      → RepliesTo publish (publisher_of old) between reply (publisher_of new)
+      → RepliesTo now publish (publisher_of old) between reply (publisher_of new)
   packet_answered true old new number now connected publish between reply is =
       inr (plain old new (parted (Calls group seen) old new connected.session now is.1.0), silent reply _ between (ap (λ (r : Reply). r.packet) is.0) (λ identifier code few same. cc same))
   packet_answered false old new number now connected publish between reply is =
-      published (publish_answer publish) old is.1 new number publish between reply refl is.2.0 (concluded reply.next is.1 new is.0 now between is.3)
+      published (publish_answer publish) old is.1 new number now publish between reply refl is.2.0 (concluded reply.next is.1 new is.0 now between is.3)
 
   reacted : (phase : ConnPhase PlaceState) (publish : Publish) (old new : Worker) (number now : ℕ) (between : ConnPhase PlaceState) (reply : Reply)
-      → Reacts (Calls group seen) slot_of old number phase now (inputs.Packet (packets.Publish publish)) between reply new → RepliesTo publish (publisher_of old) between reply (publisher_of new)
+      → Reacts (Calls group seen) slot_of old number phase now (inputs.Packet (packets.Publish publish)) between reply new → RepliesTo now publish (publisher_of old) between reply (publisher_of new)
   reacted (Unconnected opened) publish old new number now between reply is =
       first_answered (first_answer (packets.Publish publish)) old new number opened.max_inflight now publish between reply is
   reacted (Waiting request ticks) publish old new number now between reply is = absurd is
   reacted (Connected connected) publish old new number now between reply is =
       let asked = asked_of_desk number is.0 old is.1 is.2 in
-      subst (λ (from : PublisherState). RepliesTo publish from between reply (publisher_of new)) asked (packet_answered is.0 is.1 new number now connected publish between reply is.3)
+      subst (λ (from : PublisherState). RepliesTo now publish from between reply (publisher_of new)) asked (packet_answered is.0 is.1 new number now connected publish between reply is.3)
   reacted Ended publish old new number now between reply is =
       inr (ap (λ (w : Worker). w.ports) is.1, over reply between (ap (λ (r : Reply). r.packet) is.0.told) is.0.over)
 
   -- no promise stands in front of what is sent
-  unpromised : (packet : Option Packet) (between phase : ConnPhase PlaceState) (old new : Worker) (these sent : List Packet) → IsNoPromise packet between
-      → Hands (Calls group seen) slot_of old between sent phase new → these ≡ option_to_list packet ++ sent → ¬ IsPromised these
-  unpromised None between phase old new these sent never hands is promised =
-      let none = (subst (λ (s : ConnPhase PlaceState). Hands (Calls group seen) slot_of old s sent phase new) never hands).0 in
+  unpromised : (packet : Option Packet) (now : ℕ) (between phase : ConnPhase PlaceState) (old new : Worker) (these sent : List Packet) → IsNoPromise packet between
+      → Hands (Calls group seen) slot_of old between now sent phase new → these ≡ option_to_list packet ++ sent → ¬ IsPromised these
+  unpromised None now between phase old new these sent never hands is promised =
+      let none = (subst (λ (s : ConnPhase PlaceState). Hands (Calls group seen) slot_of old s now sent phase new) never hands).0 in
       let some = sym promised.4 ∙ is ∙ none in
       cc some
-  unpromised (Some packet) between phase old new these sent never hands is promised =
+  unpromised (Some packet) now between phase old new these sent never hands is promised =
       let same = sym is ∙ promised.4 in
       never promised.0 promised.1 promised.3 (cc same)
 
   -- a step of a PUBLISH
   of_publish : (old new : Worker) (number now : ℕ) (phase phase' : ConnPhase PlaceState) (publish : Publish) (these : List Packet) (next : Then)
       → StepsTo (Calls group seen) slot_of old number phase now (inputs.Packet (packets.Publish publish)) these next phase' new
-      → PublishesAt group seen (inputs.Packet (packets.Publish publish)) these (publisher_of old) (publisher_of new)
+      → PublishesAt group seen now (inputs.Packet (packets.Publish publish)) these (publisher_of old) (publisher_of new)
   of_publish old new number now phase phase' publish these next steps =
-      let handed = plain steps.mid new (handed_behind (Calls group seen) slot_of steps.between steps.mid new steps.sent phase' steps.hands).calls in
+      let handed = plain steps.mid new (handed_behind (Calls group seen) slot_of steps.between now steps.mid new steps.sent phase' steps.hands).calls in
       ⊎_elim
       (λ (it : (identifier : ℕ) × (publish_answer publish ≡ answers.Offer identifier) × (taken : ℕ)
-      × PutsInto group seen old.ports (message_of publish) (slots_matched (publisher_of old) publish) taken steps.mid.ports
+      × PutsInto group seen old.ports (message_of now publish) (slots_matched (publisher_of old) publish) taken steps.mid.ports
       × (steps.reply ≡ acknowledging identifier (puback_code (length (slots_matched (publisher_of old) publish)) taken))).
       inl (
         publish,
@@ -245,28 +219,28 @@ module _ (group : ℕ → GroupId) (seen : Sights) where
           identifier = it.0;
           brought = it.1;
           taken = it.2;
-          puts = subst (λ (ports : List PortState). PutsInto group seen old.ports (message_of publish) (slots_matched (publisher_of old) publish) it.2 ports) (sym handed) it.3;
+          puts = subst (λ (ports : List PortState). PutsInto group seen old.ports (message_of now publish) (slots_matched (publisher_of old) publish) it.2 ports) (sym handed) it.3;
           others = steps.sent;
           answered = steps.written ∙ ap (λ (r : Reply). option_to_list r.packet ++ steps.sent) it.4;
         },
       ))
       (λ (it : (steps.mid.ports ≡ old.ports) × IsNoPromise steps.reply.packet steps.between).
-      inr (handed ∙ it.0, λ other is. unpromised steps.reply.packet steps.between phase' steps.mid new these steps.sent it.1 steps.hands steps.written))
+      inr (handed ∙ it.0, λ other is. unpromised steps.reply.packet now steps.between phase' steps.mid new these steps.sent it.1 steps.hands steps.written))
       (reacted phase publish old steps.mid number now steps.between steps.reply steps.reacts)
 
   -- a step of any other input
   of_other : (input : Input) (old new : Worker) (number now : ℕ) (phase phase' : ConnPhase PlaceState) (these : List Packet) (next : Then)
       → ((publish : Publish) → input ≡ inputs.Packet (packets.Publish publish) → ⊥) → StepsTo (Calls group seen) slot_of old number phase now input these next phase' new
-      → PublishesAt group seen input these (publisher_of old) (publisher_of new)
+      → PublishesAt group seen now input these (publisher_of old) (publisher_of new)
   of_other input old new number now phase phase' these next never steps =
       let calls = stepped (Calls group seen) slot_of old new number now phase phase' input these next steps in
       ⊎_elim
-      (λ (each : OffersToEach number input calls.supply_calls). absurd (never each.publish each.came))
+      (λ (each : OffersToEach number now input calls.supply_calls). absurd (never each.publish each.came))
       (λ (nothing : OffersNone phase input calls.supply_calls next). inr (all_stay calls.supply_calls old new nothing.offers calls.made, λ publish is. absurd (never publish is)))
       calls.offers
 
   at_packet : (packet : Packet) (old new : Worker) (number now : ℕ) (phase phase' : ConnPhase PlaceState) (these : List Packet) (next : Then)
-      → StepsTo (Calls group seen) slot_of old number phase now (inputs.Packet packet) these next phase' new → PublishesAt group seen (inputs.Packet packet) these (publisher_of old) (publisher_of new)
+      → StepsTo (Calls group seen) slot_of old number phase now (inputs.Packet packet) these next phase' new → PublishesAt group seen now (inputs.Packet packet) these (publisher_of old) (publisher_of new)
   at_packet (packets.Publish publish) old new number now phase phase' these next steps = of_publish old new number now phase phase' publish these next steps
   at_packet (packets.Puback puback) old new number now phase phase' these next steps = of_other _ old new number now phase phase' these next (λ publish is. cc is) steps
   at_packet (packets.Subscribe subscribe) old new number now phase phase' these next steps = of_other _ old new number now phase phase' these next (λ publish is. cc is) steps
@@ -283,7 +257,7 @@ module _ (group : ℕ → GroupId) (seen : Sights) where
   at_packet packets.WithWill old new number now phase phase' these next steps = of_other _ old new number now phase phase' these next (λ publish is. cc is) steps
 
   at_input : (input : Input) (old new : Worker) (number now : ℕ) (phase phase' : ConnPhase PlaceState) (these : List Packet) (next : Then)
-      → StepsTo (Calls group seen) slot_of old number phase now input these next phase' new → PublishesAt group seen input these (publisher_of old) (publisher_of new)
+      → StepsTo (Calls group seen) slot_of old number phase now input these next phase' new → PublishesAt group seen now input these (publisher_of old) (publisher_of new)
   at_input (inputs.Packet packet) old new number now phase phase' these next steps = at_packet packet old new number now phase phase' these next steps
   at_input (inputs.Fault fault) old new number now phase phase' these next steps = of_other _ old new number now phase phase' these next (λ publish is. cc is) steps
   at_input inputs.Tick old new number now phase phase' these next steps = of_other _ old new number now phase phase' these next (λ publish is. cc is) steps
@@ -314,8 +288,8 @@ module _ (group : ℕ → GroupId) (seen : Sights) where
   all_of_them [] message taken old new puts = puts.1
   all_of_them (slot ∷ slots) message taken old new puts = (puts.0, puts.1, puts.4, all_of_them slots message puts.3 puts.1 new puts.6)
 
-  abbrev CutsOrStays : Publish → PublisherState → PublisherState → Type 0
-  CutsOrStays publish old new = IsCutShort group seen publish old new ⊎ (new.ports ≡ old.ports)
+  abbrev CutsOrStays : ℕ → Publish → PublisherState → PublisherState → Type 0
+  CutsOrStays now publish old new = IsCutShort group seen now publish old new ⊎ (new.ports ≡ old.ports)
 
   -- a connection that is given up for want of memory
   left_off : (phase : ConnPhase PlaceState) (old new : Worker) (number now : ℕ) → LeavesOff (Calls group seen) slot_of old number phase now new → new.ports ≡ old.ports
@@ -326,20 +300,20 @@ module _ (group : ℕ → GroupId) (seen : Sights) where
 
   -- an allocation failed for the answer to a PUBLISH
   unanswered : (phase : ConnPhase PlaceState) (publish : Publish) (old new : Worker) (number now : ℕ)
-      → FailsToReact (Calls group seen) slot_of old number phase now (inputs.Packet (packets.Publish publish)) new → IsCutShort group seen publish (publisher_of old) (publisher_of new)
+      → FailsToReact (Calls group seen) slot_of old number phase now (inputs.Packet (packets.Publish publish)) new → IsCutShort group seen now publish (publisher_of old) (publisher_of new)
   unanswered (Unconnected opened) publish old new number now fails = let never = fails.1 in absurd (cc never)
   unanswered (Waiting request ticks) publish old new number now fails = absurd fails
   unanswered (Connected connected) publish old new number now fails =
       let mid = fails.0 in
       let answer = fails.2 in
       let cut = answer.2.0 in
-      let some = few cut.slots number (message_of publish) cut.mid answer.1 cut.offered in
+      let some = few cut.slots number (message_of now publish) cut.mid answer.1 cut.offered in
       let kept = plain answer.1 new (parted (Calls group seen) answer.1 new answer.0.session now answer.3) in
-      let Puts : List PortState → List PortState → Type 0 = λ ports ports'. PutsSome group seen ports (message_of publish) some.these ports' in
+      let Puts : List PortState → List PortState → Type 0 = λ ports ports'. PutsSome group seen ports (message_of now publish) some.these ports' in
       let from_mid = subst (λ (ports : List PortState). Puts ports answer.1.ports) (ap (λ (w : Worker). w.ports) cut.matched.1) some.puts in
-      let at_mid : IsCutShort group seen publish (publisher_of mid) (publisher_of new) =
+      let at_mid : IsCutShort group seen now publish (publisher_of mid) (publisher_of new) =
       record { slots = some.these; others = some.others; matched = sym cut.matched.0 ∙ some.parts; puts = subst (Puts mid.ports) (sym kept) from_mid } in
-      subst (λ (from : PublisherState). IsCutShort group seen publish from (publisher_of new)) (asked_of_desk number false old mid fails.1) at_mid
+      subst (λ (from : PublisherState). IsCutShort group seen now publish from (publisher_of new)) (asked_of_desk number false old mid fails.1) at_mid
   unanswered Ended publish old new number now fails = absurd fails
 
   -- an allocation failed for what is handed out behind the reply
@@ -347,12 +321,12 @@ module _ (group : ℕ → GroupId) (seen : Sights) where
   handed_less (Unconnected opened) old new now hands = absurd hands
   handed_less (Waiting request ticks) old new now hands = absurd hands
   handed_less (Connected connected) old new now hands =
-      let some = handed_some (Calls group seen) (hand_out_terms connected) old hands.2 connected.session.membership connected.session.window hands.0 hands.1 hands.3 in
+      let some = handed_some (Calls group seen) (hand_out_terms connected now) old hands.2 connected.session.membership connected.session.window hands.0 hands.1 hands.3 in
       plain hands.2 new (parted (Calls group seen) hands.2 new (after_hand_out connected hands.0 hands.1).session now hands.4) ∙ plain old hands.2 some.1
   handed_less Ended old new now hands = absurd hands
 
   publish_failed : (publish : Publish) (old new : Worker) (number now : ℕ) (phase : ConnPhase PlaceState)
-      → FailsToStep (Calls group seen) slot_of old number phase now (inputs.Packet (packets.Publish publish)) new → CutsOrStays publish (publisher_of old) (publisher_of new)
+      → FailsToStep (Calls group seen) slot_of old number phase now (inputs.Packet (packets.Publish publish)) new → CutsOrStays now publish (publisher_of old) (publisher_of new)
   publish_failed publish old new number now phase (inl cuts) = inr (left_off phase old new number now cuts)
   publish_failed publish old new number now phase (inr fails) =
       ⊎_elim
@@ -361,14 +335,14 @@ module _ (group : ℕ → GroupId) (seen : Sights) where
       let kept = handed_less hand.between hand.mid new now hand.hands in
       ⊎_elim
       (λ (it : (identifier : ℕ) × (publish_answer publish ≡ answers.Offer identifier) × (taken : ℕ)
-      × PutsInto group seen old.ports (message_of publish) (slots_matched (publisher_of old) publish) taken hand.mid.ports
+      × PutsInto group seen old.ports (message_of now publish) (slots_matched (publisher_of old) publish) taken hand.mid.ports
       × (hand.reply ≡ acknowledging identifier (puback_code (length (slots_matched (publisher_of old) publish)) taken))).
       inl (record {
         slots = slots_matched (publisher_of old) publish;
         others = [];
         matched = sym (append-nil (slots_matched (publisher_of old) publish));
-        puts = subst (λ (ports : List PortState). PutsSome group seen old.ports (message_of publish) (slots_matched (publisher_of old) publish) ports) (sym kept)
-            (all_of_them (slots_matched (publisher_of old) publish) (message_of publish) it.2 old.ports hand.mid.ports it.3);
+        puts = subst (λ (ports : List PortState). PutsSome group seen old.ports (message_of now publish) (slots_matched (publisher_of old) publish) ports) (sym kept)
+            (all_of_them (slots_matched (publisher_of old) publish) (message_of now publish) it.2 old.ports hand.mid.ports it.3);
       }))
       (λ (it : (hand.mid.ports ≡ old.ports) × IsNoPromise hand.reply.packet hand.between). inr (kept ∙ it.0))
       (reacted phase publish old hand.mid number now hand.between hand.reply hand.reacts))
@@ -376,13 +350,13 @@ module _ (group : ℕ → GroupId) (seen : Sights) where
 
   -- a step in which an allocation failed
   at_failed : (input : Input) (old new : Worker) (number now : ℕ) (phase : ConnPhase PlaceState) → FailsToStep (Calls group seen) slot_of old number phase now input new
-      → PublishesSome group seen input (publisher_of old) (publisher_of new)
+      → PublishesSome group seen now input (publisher_of old) (publisher_of new)
   at_failed input old new number now phase fails =
       let calls = failed (Calls group seen) slot_of old new number now phase input fails in
       ⊎_elim
-      (λ (some : OffersToSome number input calls.supply_calls).
+      (λ (some : OffersToSome number now input calls.supply_calls).
       ⊎_elim
-      (λ (cut : IsCutShort group seen some.publish (publisher_of old) (publisher_of new)). inl (some.publish, some.came, cut))
+      (λ (cut : IsCutShort group seen now some.publish (publisher_of old) (publisher_of new)). inl (some.publish, some.came, cut))
       (λ (same : new.ports ≡ old.ports). inr same)
       (publish_failed some.publish old new number now phase (subst (λ (it : Input). FailsToStep (Calls group seen) slot_of old number phase now it new) some.came fails)))
       (λ (nothing : offered calls.supply_calls ≡ []). inr (all_stay calls.supply_calls old new nothing calls.made))
@@ -392,12 +366,12 @@ module _ (group : ℕ → GroupId) (seen : Sights) where
   given_up : (old new : Worker) (client client' : ClientState PlaceState) (now : ℕ) → IsGivenUp (Calls group seen) slot_of old client now inputs.EndOfInput client' new → new.ports ≡ old.ports
   given_up old new client client' now (inl moved) =
       ⊎_elim
-      (λ (it : (publish : Publish) × (inputs.EndOfInput ≡ inputs.Packet (packets.Publish publish)) × IsPublished group seen publish moved.0.packets (publisher_of old) (publisher_of new)). let never = it.1 in absurd (cc never))
+      (λ (it : (publish : Publish) × (inputs.EndOfInput ≡ inputs.Packet (packets.Publish publish)) × IsPublished group seen (moment_of client now) publish moved.0.packets (publisher_of old) (publisher_of new)). let never = it.1 in absurd (cc never))
       (λ (it : (new.ports ≡ old.ports) × ((publish : Publish) → inputs.EndOfInput ≡ inputs.Packet (packets.Publish publish) → ¬ IsPromised moved.0.packets)). it.0)
       (at_input inputs.EndOfInput old new client.conn.number (moment_of client now) client.conn.phase client'.conn.phase moved.0.packets moved.0.next moved.1.stepped)
   given_up old new client client' now (inr fails) =
       ⊎_elim
-      (λ (it : (publish : Publish) × (inputs.EndOfInput ≡ inputs.Packet (packets.Publish publish)) × IsCutShort group seen publish (publisher_of old) (publisher_of new)).
+      (λ (it : (publish : Publish) × (inputs.EndOfInput ≡ inputs.Packet (packets.Publish publish)) × IsCutShort group seen (moment_of client now) publish (publisher_of old) (publisher_of new)).
       let never = it.1 in absurd (cc never))
       (λ (same : new.ports ≡ old.ports). same)
       (at_failed inputs.EndOfInput old new client.conn.number (moment_of client now) client.conn.phase fails.failed)
@@ -412,7 +386,7 @@ module _ (group : ℕ → GroupId) (seen : Sights) where
 
   module _ {T : Type 0} (counts : T → Counts) (given accepted : T → Option (List ℕ)) where
     acted : (act : Act) (old new : ServiceState PlaceState T) (supply supply' : Worker) (now : ℕ) (from to : Stand)
-        → Does (Calls group seen) Begins Leaves is_visiting slot_of counts given accepted act old supply new supply' → Treads now from act to → Publishes group seen act (publisher_of supply) (publisher_of supply')
+        → Does (Calls group seen) Begins Leaves is_visiting slot_of counts given accepted act old supply new supply' → Treads now from act to → Publishes group seen old.client.conn.latest act (publisher_of supply) (publisher_of supply')
     acted (Enters is_open reads) old new supply supply' now from to does treads = does.begun.ports
     acted Left old new supply supply' now from to does treads = ap (λ (w : Worker). w.ports) does.ended.becomes
     acted (Asks is_kicked) old new supply supply' now from to does treads =

@@ -27,14 +27,14 @@ slot_of place = place.group
 
 module _ {T : Type 0} (group : ℕ → GroupId) (seen : Sights) (counts : T → Counts) (given accepted : T → Option (List ℕ)) where
   the_last : (at : ℕ) (old new : ServiceState PlaceState T) (supply supply' : Worker) → IsGivenUp (Calls group seen) slot_of supply old.client at inputs.EndOfInput new.client supply'
-      → (calls : List (SupplyCall PlaceState)) × AreOfLastStep group seen old supply calls new supply'
+      → (calls : List (SupplyCall PlaceState)) × AreOfLastStep group seen at old supply calls new supply'
   the_last at old new supply supply' (inl moved) =
       let now = moment_of old.client at in
       let none = silent (Calls group seen) slot_of supply supply' old.client.conn.number now old.client.conn.phase new.client.conn.phase moved.0.packets moved.0.next moved.1.stepped in
       let steps = subst (λ packets. ConnSteps (Calls group seen) slot_of supply old.client.conn.number old.client.conn.phase now inputs.EndOfInput packets moved.0.next new.client.conn.phase supply') none moved.1.stepped in
       let step = stepped (Calls group seen) slot_of supply supply' old.client.conn.number now old.client.conn.phase new.client.conn.phase inputs.EndOfInput [] moved.0.next steps in
       let over = ends_by (Calls group seen) slot_of supply supply' old.client.conn.number now old.client.conn.phase new.client.conn.phase inputs.EndOfInput [] moved.0.next steps tt in
-      (step.supply_calls, (none_at_the_end new.client.conn.phase step.supply_calls step.outcomes over step.fit step.handed_out, inl (moved.0.next, (step, refl))))
+      (step.supply_calls, (none_at_the_end new.client.conn.phase now step.supply_calls step.outcomes over step.fit step.handed_out, inl (moved.0.next, (step, refl))))
   the_last at old new supply supply' (inr fails) =
       let step = failed_at_the_end (Calls group seen) slot_of supply supply' old.client.conn.number (moment_of old.client at) old.client.conn.phase fails.failed in
       (step.0.supply_calls, (step.1, inr (step.0, refl, fails.over)))

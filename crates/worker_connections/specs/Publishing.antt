@@ -1,6 +1,6 @@
 -- How messages come into the ports of a worker: by the PUBLISH packets that its connections step, each through the ports of the groups whose filters match its topic, and by
 -- nothing else; and what their PUBACKs say of them (3.3.4, 3.4.2.1 and 4.7).
-use Rattle.std.specs.Prelude.{◌≡◌, ◌⊎◌, ℕ, ◌+◌, ◌<◌, List, [], ◌∷◌, ◌++◌, length, Option, Result}
+use Rattle.std.specs.Prelude.{◌≡◌, ◌⊎◌, ℕ, ◌+◌, ◌<◌, max, List, [], ◌∷◌, ◌++◌, length, Option, Result}
 use Rattle.transport.specs.declared.counts.Counts.{Counts}
 use Rattle.mqtt_packet.specs.declared.packet.Packet.{Packet}
 use Rattle.mqtt_packet.specs.declared.packet.Packet.TheVariants as packets
@@ -56,43 +56,43 @@ module _ (group : ℕ → GroupId) (seen : Sights) where
   PutsSome ports message (slot ∷ slots) ports' =
       (answer : Result Stamp OfferRefusal) × (mid : List PortState) × OffersTo group seen.saw_main ports slot message answer mid × PutsSome mid message slots ports'
 
-  -- a PUBLISH whose message was offered through the port of each group that matches, once, and how many of these groups took it: its PUBACK, in front of all that the step
+  -- a PUBLISH that came at this moment, and whose message was offered through the port of each group that matches, once, and how many of these groups took it: its PUBACK, in front of all that the step
   -- sent, says that, and nothing else came into the ports
-  pub record IsPublished (publish : Publish) (sent : List Packet) (old new : PublisherState) : Type 0 where
+  pub record IsPublished (now : ℕ) (publish : Publish) (sent : List Packet) (old new : PublisherState) : Type 0 where
     pub identifier : ℕ
     pub brought : publish_answer publish ≡ Offer identifier
     pub taken : ℕ
-    pub puts : PutsInto old.ports (message_of publish) (slots_matched old publish) taken new.ports
+    pub puts : PutsInto old.ports (message_of now publish) (slots_matched old publish) taken new.ports
     pub others : List Packet
     pub answered : sent ≡ puback identifier (puback_code (length (slots_matched old publish)) taken) ∷ others
 
-  -- what a step made of the ports, by which these packets were sent: a PUBLISH was published; or they are as they were, and then no PUBLISH was promised
-  abbrev pub PublishesAt : Input → List Packet → PublisherState → PublisherState → Type 0
-  PublishesAt input sent old new =
-      ((publish : Publish) × (input ≡ inputs.Packet (packets.Publish publish)) × IsPublished publish sent old new)
+  -- what a step at this moment made of the ports, by which these packets were sent: a PUBLISH was published; or they are as they were, and then no PUBLISH was promised
+  abbrev pub PublishesAt : ℕ → Input → List Packet → PublisherState → PublisherState → Type 0
+  PublishesAt now input sent old new =
+      ((publish : Publish) × (input ≡ inputs.Packet (packets.Publish publish)) × IsPublished now publish sent old new)
       ⊎ ((new.ports ≡ old.ports) × ((publish : Publish) → input ≡ inputs.Packet (packets.Publish publish) → ¬ IsPromised sent))
 
   -- a PUBLISH that was cut short, as an allocation failed: its message was offered through the ports of the first of the groups that match, once each, or of all of them
-  pub record IsCutShort (publish : Publish) (old new : PublisherState) : Type 0 where
+  pub record IsCutShort (now : ℕ) (publish : Publish) (old new : PublisherState) : Type 0 where
     pub slots : List ℕ
     pub others : List ℕ
     pub matched : slots_matched old publish ≡ slots ++ others
-    pub puts : PutsSome old.ports (message_of publish) slots new.ports
+    pub puts : PutsSome old.ports (message_of now publish) slots new.ports
 
   -- what a step made of them in which an allocation failed: a PUBLISH was cut short, and nothing was sent; or they are as they were
-  abbrev pub PublishesSome : Input → PublisherState → PublisherState → Type 0
-  PublishesSome input old new = ((publish : Publish) × (input ≡ inputs.Packet (packets.Publish publish)) × IsCutShort publish old new) ⊎ (new.ports ≡ old.ports)
+  abbrev pub PublishesSome : ℕ → Input → PublisherState → PublisherState → Type 0
+  PublishesSome now input old new = ((publish : Publish) × (input ≡ inputs.Packet (packets.Publish publish)) × IsCutShort now publish old new) ⊎ (new.ports ≡ old.ports)
 
-  -- what an act made of them; what is known of the routes, others may add to when a visit begins, and a SUBSCRIBE does
-  abbrev pub Publishes : Act → PublisherState → PublisherState → Type 0
-  Publishes (Steps now input sent next) old new = PublishesAt input sent old new
-  Publishes (Loses now input sent next) old new = PublishesAt input sent old new
-  Publishes (Fails now input) old new = PublishesSome input old new
-  Publishes _ old new = new.ports ≡ old.ports
+  -- what an act made of them of a connection to which something came last at this moment; what is known of the routes, others may add to when a visit begins, and a SUBSCRIBE does
+  abbrev pub Publishes : ℕ → Act → PublisherState → PublisherState → Type 0
+  Publishes latest (Steps now input sent next) old new = PublishesAt (max latest now) input sent old new
+  Publishes latest (Loses now input sent next) old new = PublishesAt (max latest now) input sent old new
+  Publishes latest (Fails now input) old new = PublishesSome (max latest now) input old new
+  Publishes latest _ old new = new.ports ≡ old.ports
 
   -- the same of the ports of the worker that makes the act, and of what that knows of the routes then
   abbrev pub PublishesIn : {T : Type 0} → Act → ServiceState PlaceState T → Worker → ServiceState PlaceState T → Worker → Type 0
-  PublishesIn act old supply new supply' = Publishes act (publisher_of supply) (publisher_of supply')
+  PublishesIn act old supply new supply' = Publishes old.client.conn.latest act (publisher_of supply) (publisher_of supply')
 
 module _ {T : Type 0} (group : ℕ → GroupId) (seen : Sights) (counts : T → Counts) (given accepted : T → Option (List ℕ)) where
   -- **What was accepted was published**: at each deed of the run, all that the ports of a worker accepted came into them by the acts of a round, one after the other; any other

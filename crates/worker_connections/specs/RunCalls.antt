@@ -12,6 +12,7 @@ use Rattle.conn_engine.specs.declared.input.Input.{Input}
 use Rattle.conn_engine.specs.declared.input.Input.TheVariants as inputs
 use Rattle.conn_engine.specs.declared.phase.ConnPhase.TheVariants.{Ended}
 use Rattle.conn_laws.specs.Calls.{StepCalls, FailedCalls, handed}
+use Rattle.client_table.specs.Clients.{moment_of}
 use Rattle.conn_service.specs.Acts.{Act, Asks, Steps, Loses, Fails, IsFull, GivesUp, Others}
 use Rattle.conn_service.specs.Lives.{Does}
 use Rattle.conn_service.specs.Services.{ServiceState}
@@ -22,30 +23,30 @@ use Rattle.worker_connections.specs.Cells.{InCell}
 use Rattle.worker_connections.specs.Chains.{Deed, MadeRound, LeavesCell, Makes, Run, RunState}
 
 module _ {T : Type 0} (group : ℕ → GroupId) (seen : Sights) where
-  -- the calls of a step of the connection, by which these packets are sent: each message that they hand out is in one of these packets, or is discarded, any other message that they
+  -- the calls of a step of the connection at this moment, by which these packets are sent: each message that they hand out is in one of these packets, or is discarded, any other message that they
   -- settle is the one that the PUBACK came for, and the places are kept
-  abbrev pub AreOfStep : Input → List Packet → Then → ServiceState PlaceState T → Worker → List (SupplyCall PlaceState) → ServiceState PlaceState T → Worker → Type 0
-  AreOfStep input sent next old supply calls new supply' =
-      (step : StepCalls (Calls group seen) supply old.client.conn.number old.client.conn.phase input sent next new.client.conn.phase supply') × (calls ≡ step.supply_calls)
+  abbrev pub AreOfStep : ℕ → Input → List Packet → Then → ServiceState PlaceState T → Worker → List (SupplyCall PlaceState) → ServiceState PlaceState T → Worker → Type 0
+  AreOfStep now input sent next old supply calls new supply' =
+      (step : StepCalls (Calls group seen) supply old.client.conn.number old.client.conn.phase (moment_of old.client now) input sent next new.client.conn.phase supply') × (calls ≡ step.supply_calls)
 
   -- those of a step in which an allocation failed, and which ended the connection
-  abbrev pub AreOfFailure : Input → ServiceState PlaceState T → Worker → List (SupplyCall PlaceState) → ServiceState PlaceState T → Worker → Type 0
-  AreOfFailure input old supply calls new supply' =
-      (step : FailedCalls (Calls group seen) supply old.client.conn.number old.client.conn.phase input supply') × (calls ≡ step.supply_calls) × (new.client.conn.phase ≡ Ended)
+  abbrev pub AreOfFailure : ℕ → Input → ServiceState PlaceState T → Worker → List (SupplyCall PlaceState) → ServiceState PlaceState T → Worker → Type 0
+  AreOfFailure now input old supply calls new supply' =
+      (step : FailedCalls (Calls group seen) supply old.client.conn.number old.client.conn.phase (moment_of old.client now) input supply') × (calls ≡ step.supply_calls) × (new.client.conn.phase ≡ Ended)
 
   -- those of the last step of a connection that is given up, which sends nothing and hands nothing out
-  abbrev pub AreOfLastStep : ServiceState PlaceState T → Worker → List (SupplyCall PlaceState) → ServiceState PlaceState T → Worker → Type 0
-  AreOfLastStep old supply calls new supply' =
+  abbrev pub AreOfLastStep : ℕ → ServiceState PlaceState T → Worker → List (SupplyCall PlaceState) → ServiceState PlaceState T → Worker → Type 0
+  AreOfLastStep now old supply calls new supply' =
       (handed calls ≡ [])
-      × (((next : Then) × AreOfStep inputs.EndOfInput [] next old supply calls new supply') ⊎ AreOfFailure inputs.EndOfInput old supply calls new supply')
+      × (((next : Then) × AreOfStep now inputs.EndOfInput [] next old supply calls new supply') ⊎ AreOfFailure now inputs.EndOfInput old supply calls new supply')
 
   -- the calls of an act; what others do to the supply is none of a round
   abbrev pub AreOfAct : Act → ServiceState PlaceState T → Worker → List (SupplyCall PlaceState) → ServiceState PlaceState T → Worker → Type 0
-  AreOfAct (Steps now input sent next) old supply calls new supply' = AreOfStep input sent next old supply calls new supply'
-  AreOfAct (Loses now input sent next) old supply calls new supply' = AreOfStep input sent next old supply calls new supply'
-  AreOfAct (Fails now input) old supply calls new supply' = AreOfFailure input old supply calls new supply'
-  AreOfAct (IsFull now) old supply calls new supply' = AreOfLastStep old supply calls new supply'
-  AreOfAct (GivesUp now) old supply calls new supply' = AreOfLastStep old supply calls new supply'
+  AreOfAct (Steps now input sent next) old supply calls new supply' = AreOfStep now input sent next old supply calls new supply'
+  AreOfAct (Loses now input sent next) old supply calls new supply' = AreOfStep now input sent next old supply calls new supply'
+  AreOfAct (Fails now input) old supply calls new supply' = AreOfFailure now input old supply calls new supply'
+  AreOfAct (IsFull now) old supply calls new supply' = AreOfLastStep now old supply calls new supply'
+  AreOfAct (GivesUp now) old supply calls new supply' = AreOfLastStep now old supply calls new supply'
   AreOfAct (Asks is_kicked) old supply calls new supply' = calls ≡ Kicked old.client.conn.number is_kicked ∷ []
   AreOfAct Others old supply calls new supply' = ⊥
   AreOfAct _ old supply calls new supply' = calls ≡ []

@@ -14,6 +14,7 @@ pub fn message(alloc: Global, payload: &'static [u8]) -> Option<SharedMessage> {
     let topic = Text::parse(Bytes::from_static(b"job"))?;
     let message = Message {
         topic,
+        expiry: None,
         properties: RareProperties::none(),
         payload: Bytes::from_static(payload),
     };

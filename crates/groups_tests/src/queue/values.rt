@@ -15,6 +15,7 @@ pub fn message(alloc: Global, payload: &'static [u8]) -> Option<SharedMessage> {
     properties.payload_format_indicator = Some(1);
     let message = Message {
         topic,
+        expiry: None,
         properties: RareProperties::new(alloc, properties).ok()?,
         payload: Bytes::from_static(payload),
     };

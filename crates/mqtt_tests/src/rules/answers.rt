@@ -163,10 +163,9 @@ fn terms_of_clients(rt: HostRuntime) -> Result<(), Fail> {
 #[test]
 fn publishes(rt: HostRuntime) -> Result<(), Fail> {
     let seven = PacketIdentifier::new(7).ok_or("7 is an identifier")?;
-    let refused = PublishAnswer::Refuse(seven, ReasonCode::new(0x83));
     let rows = [
         ("320900036A6F6200070041", PublishAnswer::Offer(seven)),
-        ("320B0001610007050200000005", refused),
+        ("320B0001610007050200000005", PublishAnswer::Offer(seven)),
     ];
     for (digits, wanted) in &rows {
         assert_same_at(&rt, &published(rt.alloc(), digits)?, &Some(*wanted), digits);

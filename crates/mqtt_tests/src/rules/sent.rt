@@ -4,9 +4,10 @@ use crate::rules::reading::packet;
 use crate::written;
 use bytes::Bytes;
 use conn_rules::{
-    HandOutTerms, accepting, disconnect, is_discarded, job, puback, refusing, suback, unsuback,
+    HandOutTerms, accepting, disconnect, interval_left, is_discarded, is_expired, job, puback,
+    refusing, suback, unsuback,
 };
-use group_jobs::Message;
+use group_jobs::{Expiry, Message};
 use mqtt_fields::Fault;
 use mqtt_packet::{
     ConnectRefusal, MaximumPacketSize, NonEmpty, Packet, PacketIdentifier, ReasonCode,
@@ -80,6 +81,7 @@ fn message(alloc: Global, digits: &str) -> Result<Option<Message>, Fault> {
     match packet(alloc, digits) {
         Ok(Some(Packet::Publish(publish))) => Ok(Some(Message {
             topic: publish.topic,
+            expiry: None,
             properties: publish.properties,
             payload: publish.payload,
         })),
@@ -96,7 +98,7 @@ fn passed_on(alloc: Global, digits: &str, dup: bool, subscription: u32) -> Resul
     let one = PacketIdentifier::new(1).ok_or("1 is an identifier")?;
     let message = message(alloc, digits)?.ok_or("a PUBLISH")?;
     let subscription = SubscriptionIdentifier::new(subscription);
-    let packet = job(dup, &message, subscription, one).or(Err(Fault::Memory))?;
+    let packet = job(0, dup, &message, subscription, one).or(Err(Fault::Memory))?;
     Ok(written(alloc, packet)?)
 }
 
@@ -130,11 +132,47 @@ fn messages_that_are_too_long(rt: HostRuntime) -> Result<(), Fail> {
     ];
     for (subscription, maximum, wanted) in &rows {
         let terms = HandOutTerms {
+            at: 0,
             subscription: SubscriptionIdentifier::new(*subscription),
             maximum_packet_size: MaximumPacketSize::new(*maximum),
         };
         let discarded = is_discarded(&message, &terms).or(Err(Fault::Memory))?;
         assert_same(&rt, &discarded, wanted);
+    }
+    Ok(())
+}
+
+// A message that came at 2,000 with an interval of ten seconds, or of none, or with no interval.
+#[test]
+fn messages_that_expire(rt: HostRuntime) -> Result<(), Fail> {
+    let ten = Some(Expiry {
+        seconds: 10,
+        accepted_at: 2_000,
+    });
+    let none = Some(Expiry {
+        seconds: 0,
+        accepted_at: 2_000,
+    });
+    let longest = Some(Expiry {
+        seconds: u32::MAX,
+        accepted_at: 2_000,
+    });
+    let rows = [
+        (2_000, ten, false, Some(10)),
+        (2_999, ten, false, Some(10)),
+        (3_000, ten, false, Some(9)),
+        (11_999, ten, false, Some(1)),
+        (12_000, ten, true, Some(0)),
+        (u64::MAX, ten, true, Some(0)),
+        (0, ten, false, Some(10)),
+        (2_000, none, true, Some(0)),
+        (4_294_967_296_999, longest, false, Some(1)),
+        (4_294_967_297_000, longest, true, Some(0)),
+        (u64::MAX, None, false, None),
+    ];
+    for (now, expiry, expired, left) in &rows {
+        assert_same(&rt, &is_expired(*now, *expiry), expired);
+        assert_same(&rt, &interval_left(*now, *expiry), left);
     }
     Ok(())
 }

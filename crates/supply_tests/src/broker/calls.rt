@@ -12,6 +12,7 @@ pub(crate) fn message(alloc: Global) -> Option<SharedMessage> {
     let topic = Text::parse(Bytes::from_static(b"job"))?;
     let message = Message {
         topic,
+        expiry: None,
         properties: RareProperties::none(),
         payload: Bytes::from_static(b"A"),
     };

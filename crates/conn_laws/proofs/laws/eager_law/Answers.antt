@@ -5,4 +5,4 @@ use Rattle.conn_laws.proofs.laws.eager_law.Goals as goal
 
 pub returns : goal.returns
 returns g c number now phase connected input packets next old new steps =
-    handed g.S.Supply.call g.P.Place.slot_of steps.between steps.mid new steps.sent (Connected connected) steps.hands
+    handed g.S.Supply.call g.P.Place.slot_of steps.between now steps.mid new steps.sent (Connected connected) steps.hands

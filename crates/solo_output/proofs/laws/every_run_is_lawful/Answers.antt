@@ -5,7 +5,7 @@ use Rattle.solo_output.proofs.Lasting.{lasts_ran}
 use Rattle.solo_output.proofs.StepLaws.{step_goes_to}
 use Rattle.solo_output.proofs.Lawful.{kept_of, fits_all, within_maximum, accepted_all, told_all, own_all, bound_all, silent, settles_one, settled_all, eager_all}
 use Rattle.solo_output.proofs.Grouped.{groups_all, slots_all, fates_all}
-use Rattle.solo_output.proofs.Unfit.{discarded_all}
+use Rattle.solo_output.proofs.Discarded.{discarded_all}
 use Rattle.solo_output.proofs.laws.every_run_is_lawful.Goals as goal
 
 pub returns-clause-receive_maximum : goal.returns-clause-receive_maximum

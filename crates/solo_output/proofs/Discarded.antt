@@ -11,11 +11,12 @@ use Rattle.conn_rules.specs.declared.connecting.FirstAnswer.{FirstAnswer}
 use Rattle.conn_rules.specs.declared.connecting.FirstAnswer.TheVariants as first
 use Rattle.conn_rules.specs.declared.setup.Setup.{Setup}
 use Rattle.conn_rules.specs.Connecting.{connect_answer}
-use Rattle.conn_rules.specs.HandOuts.{is_big}
+use Rattle.conn_rules.specs.declared.hand_outs.HandOutTerms.{HandOutTerms}
+use Rattle.conn_rules.specs.HandOuts.{is_discarded}
 use Rattle.solo_output.specs.Groups.{SoloState, HandOut, Outcome, opening, accepted_in, handed_in, waiting_in, unacknowledged, discards, settled, with_message, with_puback, with_hand_out}
 use Rattle.solo_output.specs.Groups.Outcome.{Unacknowledged, Acknowledged, Discarded}
 use Rattle.solo_output.specs.Groups.Phase.{Connected, Closed}
-use Rattle.solo_output.specs.HandOuts.{quota, is_unfit, outcome_of, next_hand_out}
+use Rattle.solo_output.specs.HandOuts.{quota, terms_in, outcome_of, next_hand_out}
 use Rattle.solo_output.specs.Publishing.{Reply, is_full}
 use Rattle.solo_output.specs.Replies.{first_reply_as, behind_reply, solo_steps}
 use Rattle.solo_output.specs.Runs.{run_of}
@@ -28,10 +29,14 @@ use Rattle.solo_output.proofs.Lawful.{asked_ran, stays_closed}
 -- ---- messages beside their hand-outs
 
 -- each hand-out was discarded exactly where its message was too long for a client of this Maximum Packet Size
+-- what a hand-out is made under: this Maximum Packet Size, and this Subscription Identifier
+abbrev terms_under : Option ℕ → Option ℕ → HandOutTerms
+terms_under maximum subscription = record { at = 0; subscription = subscription; maximum_packet_size = maximum }
+
 abbrev AllFit : Option ℕ → List Message → List HandOut → Type 0
 AllFit maximum [] hand_outs = Unit {0}
 AllFit maximum (message ∷ messages) [] = Unit {0}
-AllFit maximum (message ∷ messages) (one ∷ hand_outs) = (discards one.outcome ≡ is_big maximum one.subscription message) × AllFit maximum messages hand_outs
+AllFit maximum (message ∷ messages) (one ∷ hand_outs) = (discards one.outcome ≡ is_discarded (terms_under maximum one.subscription) message) × AllFit maximum messages hand_outs
 
 fit_none : (maximum : Option ℕ) (messages : List Message) → AllFit maximum messages []
 fit_none maximum [] = tt
@@ -62,27 +67,27 @@ fit_settling maximum identifier code [] hand_outs all = tt
 fit_settling maximum identifier code (message ∷ messages) [] all = tt
 fit_settling maximum identifier code (message ∷ messages) (one ∷ hand_outs) all = (
   settled_discards identifier code one.slot one.subscription one.identifier one.outcome ∙ all.0
-      ∙ ap (λ (s : Option ℕ). is_big maximum s message) (sym (settled_subscription identifier code one.slot one.subscription one.identifier one.outcome)),
+      ∙ ap (λ (s : Option ℕ). is_discarded (terms_under maximum s) message) (sym (settled_subscription identifier code one.slot one.subscription one.identifier one.outcome)),
   fit_settling maximum identifier code messages hand_outs all.1,
 )
 
 -- the next is handed out
-fit_handing : (maximum : Option ℕ) (messages : List Message) (hand_outs : List HandOut) (message : Message) (rest : List Message) (one : HandOut) → drop (length hand_outs) messages ≡ message ∷ rest → discards one.outcome ≡ is_big maximum one.subscription message
+fit_handing : (maximum : Option ℕ) (messages : List Message) (hand_outs : List HandOut) (message : Message) (rest : List Message) (one : HandOut) → drop (length hand_outs) messages ≡ message ∷ rest → discards one.outcome ≡ is_discarded (terms_under maximum one.subscription) message
     → AllFit maximum messages hand_outs → AllFit maximum messages (hand_outs ++ one ∷ [])
 fit_handing maximum [] hand_outs message rest one left its all = tt
 fit_handing maximum (own ∷ messages) [] message rest one left its all =
     let same : own ≡ message = cc in
-    (its ∙ ap (is_big maximum one.subscription) (sym same), fit_none maximum messages)
+    (its ∙ ap (is_discarded (terms_under maximum one.subscription)) (sym same), fit_none maximum messages)
 fit_handing maximum (own ∷ messages) (other ∷ hand_outs) message rest one left its all = (all.0, fit_handing maximum messages hand_outs message rest one left its all.1)
 
 fit_at : (maximum : Option ℕ) (messages : List Message) (hand_outs : List HandOut) (place : ℕ) (message : Message) (one : HandOut) → AllFit maximum messages hand_outs → slice_get messages place ≡ Some message → slice_get hand_outs place ≡ Some one
-    → discards one.outcome ≡ is_big maximum one.subscription message
+    → discards one.outcome ≡ is_discarded (terms_under maximum one.subscription) message
 fit_at maximum [] hand_outs place message one all there its = absurd (none-some message there)
 fit_at maximum (own ∷ messages) [] place message one all there its = absurd (none-some one its)
 fit_at maximum (own ∷ messages) (other ∷ hand_outs) zero message one all there its =
     let same = same_Some own message there in
     let same_one = same_Some other one its in
-    subst (λ (h : HandOut). discards h.outcome ≡ is_big maximum h.subscription message) same_one (all.0 ∙ ap (is_big maximum other.subscription) same)
+    subst (λ (h : HandOut). discards h.outcome ≡ is_discarded (terms_under maximum h.subscription) message) same_one (all.0 ∙ ap (is_discarded (terms_under maximum other.subscription)) same)
 fit_at maximum (own ∷ messages) (other ∷ hand_outs) (suc place) message one all there its = fit_at maximum messages hand_outs place message one all.1 there its
 
 -- ---- every move
@@ -135,7 +140,7 @@ suits_settling identifier code solo k = (
       (fit_settling solo.terms.maximum_packet_size identifier code (accepted_in slot solo.groups) (handed_in slot solo.handed_out) (fit slot)),
 )
 
-discards_as : (unfit : Bool) → discards (outcome_of unfit) ≡ unfit
+discards_as : (discarded : Bool) → discards (outcome_of discarded) ≡ discarded
 discards_as true = refl
 discards_as false = refl
 
@@ -150,7 +155,7 @@ suits_handing slot message rest solo connected member less waits k = (
       (λ (is : at ≡ slot).
       subst (λ (n : ℕ). AllFit maximum (accepted_in n solo.groups) (handed_in n (solo.handed_out ++ one ∷ []))) (sym is)
       (subst (AllFit maximum (accepted_in slot solo.groups)) (sym (handed_in_push_same solo.handed_out one))
-      (fit_handing maximum (accepted_in slot solo.groups) (handed_in slot solo.handed_out) message rest one waits (discards_as (is_unfit message solo)) (fit slot))))
+      (fit_handing maximum (accepted_in slot solo.groups) (handed_in slot solo.handed_out) message rest one waits (discards_as (is_discarded (terms_in solo) message)) (fit slot))))
       (λ (other : at ≢ slot). subst (AllFit maximum (accepted_in at solo.groups)) (sym (handed_in_push_other solo.handed_out one at (λ e. other (sym e)))) (fit at))
       (cases_eq at slot)),
 )
@@ -179,7 +184,7 @@ module _ (setup : Setup) (connect : Connect) (packets : List Packet) (slot place
   abbrev Discarding : SoloState → Type 0
   Discarding solo =
       slice_get (accepted_in slot solo.groups) place ≡ Some message → slice_get (handed_in slot solo.handed_out) place ≡ Some one
-      → discards one.outcome ≡ is_big connect.properties.maximum_packet_size one.subscription message
+      → discards one.outcome ≡ is_discarded (terms_under connect.properties.maximum_packet_size one.subscription) message
 
   closed : (r : Reply) → r.solo.phase ≡ Closed → r.solo.handed_out ≡ [] → Discarding (solo_steps packets (behind_reply r).solo).solo
   closed r is none there its = absurd (none_handed slot place one (solo_steps packets (behind_reply r).solo).solo.handed_out (ap (λ (s : SoloState). s.handed_out) (stays_closed packets r is) ∙ none) its)
@@ -193,11 +198,11 @@ module _ (setup : Setup) (connect : Connect) (packets : List Packet) (slot place
       let same = (asked_ran packets next (λ e. absurd cc)).2 in
       let last = (solo_steps packets next).solo in
       fit_at last.terms.maximum_packet_size (accepted_in slot last.groups) (handed_in slot last.handed_out) place message one (fit slot) there its
-      ∙ ap (λ (m : Option ℕ). is_big m one.subscription message) same
+      ∙ ap (λ (m : Option ℕ). is_discarded (terms_under m one.subscription) message) same
 
   pub discarded_all : let solo = (run_of setup (kinds.Connect connect ∷ packets)).solo in
       slice_get (accepted_in slot solo.groups) place ≡ Some message → slice_get (handed_in slot solo.handed_out) place ≡ Some one
-      → (one.outcome ≡ Discarded) ↔ (is_big connect.properties.maximum_packet_size one.subscription message ≡ true)
+      → (one.outcome ≡ Discarded) ↔ (is_discarded (terms_under connect.properties.maximum_packet_size one.subscription) message ≡ true)
   discarded_all there its =
       let same = by_answer (connect_answer connect) (fit_all setup (kinds.Connect connect ∷ packets)) there its in
-      (λ is. sym same ∙ ap discards is, λ big. is_discarded_out one.outcome (same ∙ big))
+      (λ is. sym same ∙ ap discards is, λ due. is_discarded_out one.outcome (same ∙ due))
