@@ -22,6 +22,7 @@ class Link:
         self.sent = 0  # bytes that the system took
         self.said = 0  # bytes that were to be sent
         self.reads, self.gone, self.joined = True, False, False
+        self.opened = time.monotonic()
         self.dropped = None  # the moment at which it was dropped from here
         self.told = None  # the Reason Code of a DISCONNECT that came
         self.answers = collections.deque()  # which answers are due, in order
@@ -145,6 +146,7 @@ class Publisher(Link):
         self.left = self.rule.choice((3, 10, 30, 60, 200))
         self.window = self.rule.choice((1, 4, 16, 1_000))
         self.large = self.rule.random() < 0.1
+        self.expires = self.rule.choice((0, 0, 0.3, 1))
         self.end_by = self.rule.choice(("disconnect", "disconnect", "fin", "cut", "cut" if fleet.orderly else "reset"))
         self.open = collections.deque()
 
@@ -164,11 +166,12 @@ class Publisher(Link):
         identifier = self.jobs % 65_535 + 1
         payload = f"{self.name} {self.jobs} ".encode()
         payload += b"x" * self.rule.choice((0, 1, 60, 5_000 if self.large else 7))
-        sent = publish(group_topic, payload, identifier)
+        interval = self.rule.choice((3_600, 2, 1, 0)) if self.rule.random() < self.expires else None
+        sent = publish(group_topic, payload, identifier, interval)
         jobs = []
         for group in self.fleet.groups:
             if group.topic == group_topic:
-                job = Job(payload, self.name, self.jobs, group_topic, len(sent))
+                job = Job(payload, self.name, self.jobs, group_topic, len(sent), interval)
                 group.jobs[payload] = job
                 jobs.append(job)
         if self.end_by == "cut" and not self.left:
@@ -222,6 +225,7 @@ class Publisher(Link):
         for job in jobs:
             if code == 0:
                 job.accepted = True
+                job.acknowledged_at = time.monotonic()
             elif len(jobs) == 1:
                 if job.holder is not None:
                     raise Fault(f"{self.name}: {job.payload[:20]} was refused, and handed out")

@@ -4,7 +4,7 @@ import time
 
 from fleet_links import Link
 from fleet_model import Fault, Session, fate_of
-from frames import PINGREQ, connect, disconnect, job_of, puback, subscribe, unsubscribe
+from frames import PINGREQ, connect, disconnect, interval_of, job_of, puback, subscribe, unsubscribe
 
 PLACES = 32
 NOTICED = 1  # after how many seconds the broker has surely noticed that a connection was dropped
@@ -20,6 +20,7 @@ class Member(Link):
         self.clean = rule.random() < (0.25 if again else 0.5)
         self.expiry = rule.choice((0, 3_600, 3_600))
         self.maximum = rule.choice((1, 2, 3, 8, 256, 0))
+        self.takes = identity.takes if rule.random() < 0.7 else 0  # its Maximum Packet Size, where it names one
         self.manner = rule.choice(("first", "first", "any", "late", "all", "never"))
         self.refuses = rule.choice((0, 0, 0.1, 0.5))
         self.leaves = rule.choice(("disconnect", "disconnect", "expire", "fin", "drop", "takeover", "stay"))
@@ -42,8 +43,8 @@ class Member(Link):
         old = identity.session
         if old is not None and (self.clean or old.expiry == 0):
             old.may_have_ended()
-        self.say(connect(identity.name, self.clean, self.expiry, self.maximum, maximum_packet_size=identity.takes))
-        identity.note(self, f"connects, Clean Start {self.clean}, expiry {self.expiry}, Receive Maximum {self.maximum}")
+        self.say(connect(identity.name, self.clean, self.expiry, self.maximum, maximum_packet_size=self.takes))
+        identity.note(self, f"connects, Clean Start {self.clean}, expiry {self.expiry}, Receive Maximum {self.maximum}, Maximum Packet Size {self.takes}")
 
     def limit(self):
         return min(self.maximum or 65_535, 256)
@@ -83,9 +84,17 @@ class Member(Link):
             if not self.older and not self.hasty and not self.follows_dropped():
                 raise Fault(f"{name}: CONNACK 89 with no other connection of it")
             return
+        if code == 0x83:
+            self.fleet.not_resumed += 1
+            if not self.may_hold_too_long(old):
+                raise Fault(f"{name}: CONNACK 83 with Maximum Packet Size {self.takes}, and its session holds no longer packet")
+            self.left_by = "too long"
+            self.fleet.later(self.identity, self.group)
+            return
         if code:
             raise Fault(f"{name}: CONNACK {body.hex()}")
         self.joined = True
+        self.group.discards = self.group.discards or self.takes > 0
         if present and self.clean:
             raise Fault(f"{name}: Session Present 1 after Clean Start")
         if self.hasty:
@@ -108,6 +117,16 @@ class Member(Link):
         place = self.identity.links.index(self)
         if any(link.clean or not self.expiry for link in self.identity.links[place + 1 :]):
             self.session.may_have_ended()
+
+    def may_hold_too_long(self, session):
+        """Whether the session may hold a PUBLISH that is longer than this connection takes, so that it is not given to it."""
+        if not self.takes or self.clean:
+            return False
+        if self.hasty:
+            return True
+        if session is None or session.ended == "surely":
+            return False
+        return self.group.hidden > 0 or any(job.size > self.takes for job in session.held.values())
 
     def follows_dropped(self):
         """Whether another connection of the client was dropped so lately that the broker may not have noticed: then one of them may still wait for the session."""
@@ -147,8 +166,11 @@ class Member(Link):
             raise Fault(f"{where}: identifier")
         if identifier in self.window:
             raise Fault(f"{where}: the identifier is in use")
-        if self.identity.takes and job.size > self.identity.takes:
-            raise Fault(f"{where}: {job.size} bytes, Maximum Packet Size {self.identity.takes}")
+        if self.takes and job.size > self.takes:
+            raise Fault(f"{where}: {job.size} bytes, Maximum Packet Size {self.takes}")
+        fault = job.fault_of(interval_of(body), first == 0x32, self.opened)
+        if fault is not None:
+            raise Fault(f"{where}: {fault}")
         self.window[identifier] = job
         if len(self.window) > self.limit():
             raise Fault(f"{where}: {len(self.window)} unacknowledged, Receive Maximum {self.maximum}")
@@ -258,7 +280,6 @@ class Member(Link):
         if self.session.group is None:
             self.session.group = self.group
             self.group.sessions += 1
-            self.group.discards = self.group.discards or self.identity.takes > 0
         self.say(subscribe(self.group.share))
 
     def act(self):

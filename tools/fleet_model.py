@@ -4,6 +4,7 @@ import time
 
 
 LEAST_MAXIMUM = 64  # the least Maximum Packet Size that the broker takes
+CLOCKS = 0.5  # seconds by which a moment of the broker may be before that of the clients: a worker reads its clock once a turn, before it reads what came
 
 
 class Fault(Exception):
@@ -20,15 +21,18 @@ class Group:
         self.turned = {}  # jobs whose first delivery came behind a later job of their publisher
         self.last = {}  # by session and publisher, the number of the latest first delivery
         self.sessions = 0  # how many sessions were a member of it
-        self.discards = False  # whether one of them took no long packets
+        self.discards = False  # whether a connection of one of its members took no long packets
 
 
 class Job:
     """A job in one group, and what was seen of it."""
 
-    def __init__(self, payload, publisher, number, topic, size):
+    def __init__(self, payload, publisher, number, topic, size, interval):
         self.payload, self.publisher, self.number, self.topic = payload, publisher, number, topic
         self.size = size  # the bytes of its PUBLISH
+        self.interval = interval  # its Message Expiry Interval, in seconds, or None
+        self.sent_at = time.monotonic()
+        self.acknowledged_at = None  # the moment at which its PUBACK was read, where it was
         self.accepted = None  # None while it is open
         self.holder = None  # the session that it was last seen at
         self.code = None  # the Reason Code of the PUBACK that its holder sent
@@ -60,8 +64,24 @@ class Job:
         return found
 
     def may_be_discarded(self, group):
-        """Whether it may have been handed to a member that it is too long for: which member had its turn nobody sees."""
-        return group.discards and self.size > LEAST_MAXIMUM
+        """Whether it may have expired, or may have been handed to a member that it is too long for: which member had its turn nobody sees."""
+        return group.discards and self.size > LEAST_MAXIMUM or self.interval is not None and self.waited() >= self.interval - CLOCKS
+
+    def waited(self):
+        """How many seconds it has waited at most."""
+        return time.monotonic() - self.sent_at
+
+    def fault_of(self, left, fresh, opened):
+        """What is wrong with the Message Expiry Interval with which it came on a connection that was opened at that moment; None where nothing is."""
+        if left is None or self.interval is None:
+            return None if left is self.interval else f"interval {left}, published with {self.interval}"
+        if fresh and not left:
+            return "fresh, and it has expired"
+        least = max(0, self.interval - int(self.waited() + CLOCKS))
+        # it was accepted before its PUBACK was read, and is handed out after the connection was opened
+        passed = 0 if self.acknowledged_at is None else max(0, int(opened - self.acknowledged_at - CLOCKS))
+        most = max(0, self.interval - passed)
+        return None if least <= left <= most else f"interval {left}, expected {least} to {most}"
 
 
 def fate_of(code):
@@ -88,7 +108,7 @@ class Identity:
 
     def __init__(self, name, hasty=False):
         self.name, self.hasty, self.session, self.open, self.links = name, hasty, None, [], []
-        self.takes = 0  # its Maximum Packet Size, where it names one
+        self.takes = 0  # the Maximum Packet Size of those of its connections that name one
         self.log = collections.deque(maxlen=200)
 
     def note(self, link, what):

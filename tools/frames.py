@@ -50,8 +50,10 @@ def unsubscribe(share, identifier=2):
     return packet(0xA2, identifier.to_bytes(2, "big") + b"\x00" + text(share))
 
 
-def publish(topic, payload, identifier):
-    return packet(0x32, text(topic) + identifier.to_bytes(2, "big") + b"\x00" + payload)
+def publish(topic, payload, identifier, interval=None):
+    """Returns a PUBLISH with QoS 1, with a Message Expiry Interval where one is given."""
+    properties = b"\x00" if interval is None else b"\x05\x02" + interval.to_bytes(4, "big")
+    return packet(0x32, text(topic) + identifier.to_bytes(2, "big") + properties + payload)
 
 
 def puback(identifier, code=0):
@@ -92,6 +94,13 @@ def job_of(body):
     """Returns the topic, the identifier and the payload of a PUBLISH packet with QoS 1 and no properties of more than 127 bytes."""
     end = 2 + int.from_bytes(body[:2], "big")
     return body[2:end].decode(), int.from_bytes(body[end : end + 2], "big"), body[end + 3 + body[end + 2] :]
+
+
+def interval_of(body):
+    """Returns the Message Expiry Interval of a PUBLISH packet in which it is the first property, or None."""
+    end = 2 + int.from_bytes(body[:2], "big")
+    properties = body[end + 3 : end + 3 + body[end + 2]]
+    return int.from_bytes(properties[1:5], "big") if properties[:1] == b"\x02" else None
 
 
 def free_port():
