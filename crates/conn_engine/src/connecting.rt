@@ -164,7 +164,7 @@ fn resume<P: HoldingPlace, S: Supply<P>>(
 
 /// Whether a window holds a message whose PUBLISH, as it was sent first, is longer than a client of these terms takes (section 3.1.2.11.4).
 fn holds_message_too_long(window: &Window<Envelope>, terms: &Terms) -> Result<bool, NoMemory>
-    ensures { IfOk result (λ big. big ≡ holds_message_too_long terms.now.maximum_packet_size window.now) }
+    ensures { IfOk result (λ holds. holds ≡ holds_message_too_long terms.now.maximum_packet_size window.now) }
 {
     'held: for place in 0..window.len() {
         if is_too_long_at(window, place, terms)? {
@@ -176,7 +176,7 @@ fn holds_message_too_long(window: &Window<Envelope>, terms: &Terms) -> Result<bo
 
 /// Whether the message at this place of a window is too long for a client of these terms; not where there is none.
 fn is_too_long_at(window: &Window<Envelope>, place: usize, terms: &Terms) -> Result<bool, NoMemory>
-    ensures { IfOk result (λ big. (entry : ℕ × Held) → slice_get (held_of window.now) place ≡ Some entry → big ≡ is_message_too_long terms.now.maximum_packet_size entry.1.subscription entry.1.message) }
+    ensures { IfOk result (λ too_long. (entry : ℕ × Held) → slice_get (held_of window.now) place ≡ Some entry → too_long ≡ is_message_too_long terms.now.maximum_packet_size entry.1.subscription entry.1.message) }
 {
     match window.get(place) {
         Some((_, envelope)) => Ok(is_message_too_long(

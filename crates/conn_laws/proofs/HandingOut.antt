@@ -220,7 +220,7 @@ module _ {S P : Type 0} (call : S → SupplyCall P → S → Type 0) (terms : Ha
         outcomes = record { hand_out = (first.0, envelope); sent = false } ∷ rest.outcomes;
         discards = ap (λ (l : List (Held × Fate)). (envelope, Discarded) ∷ l) rest.discards;
         none_sent = rest.none_sent;
-        fit = (ap not (sym discards.2.unfit), rest.fit);
+        fit = (ap not (sym discards.2.reason), rest.fit);
         asks = asks_on _ rest.outcomes old discards.1 new place discards.0 place' first.1 rest.asks;
       }
 

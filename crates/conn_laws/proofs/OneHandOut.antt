@@ -71,7 +71,7 @@ module _ {S P : Type 0} (call : S → SupplyCall P → S → Type 0) (AreAlike :
     discards_and_finds : {A : Type 0} (a a' b b' : S) (place p q : P) (envelope : Held) (found : Option Held) → AreAlike a b → DiscardsOne call terms a place envelope p a' → Finds call terms b place found q b' → A
     discards_and_finds a a' b b' place p q envelope (Some other) alike h k =
         let one = asked a h.mid b b' place h.taken q (Some envelope) (Some other) alike h.asked k.1 in
-        absurd (no_yes (sym k.2 ∙ ap (λ (e : Held). is_discarded terms e.message) (sym (same_Some envelope other one.1)) ∙ h.unfit))
+        absurd (no_yes (sym k.2 ∙ ap (λ (e : Held). is_discarded terms e.message) (sym (same_Some envelope other one.1)) ∙ h.reason))
     discards_and_finds a a' b b' place p q envelope None alike h (inl k) =
         absurd (none_some envelope (sym (asked a h.mid b b' place h.taken q (Some envelope) None alike h.asked k.1).1))
     discards_and_finds a a' b b' place p q envelope None alike h (inr k) = absurd (no_yes (sym (calls.allowed call AreAlike answers a a b b place true false alike h.allowed k.2).0))
@@ -79,7 +79,7 @@ module _ {S P : Type 0} (call : S → SupplyCall P → S → Type 0) (AreAlike :
     finds_and_discards : {A : Type 0} (a a' b b' : S) (place p q : P) (found : Option Held) (envelope : Held) → AreAlike a b → Finds call terms a place found p a' → DiscardsOne call terms b place envelope q b' → A
     finds_and_discards a a' b b' place p q (Some other) envelope alike h k =
         let one = asked a a' b k.mid place p k.taken (Some other) (Some envelope) alike h.1 k.asked in
-        absurd (no_yes (sym h.2 ∙ ap (λ (e : Held). is_discarded terms e.message) (same_Some other envelope one.1) ∙ k.unfit))
+        absurd (no_yes (sym h.2 ∙ ap (λ (e : Held). is_discarded terms e.message) (same_Some other envelope one.1) ∙ k.reason))
     finds_and_discards a a' b b' place p q None envelope alike (inl h) k =
         absurd (none_some envelope (asked a a' b k.mid place p k.taken None (Some envelope) alike h.1 k.asked).1)
     finds_and_discards a a' b b' place p q None envelope alike (inr h) k = absurd (no_yes (calls.allowed call AreAlike answers a a b b place false true alike h.2 k.allowed).0)

@@ -5,7 +5,7 @@ ghost use Rattle.conn_rules.specs.Expiring.{expiry_from, waited, is_expired, int
 use group_jobs::Expiry;
 
 /// When a message expires that came at this moment, in milliseconds, with this Message Expiry Interval, in seconds.
-pub fn expiry_from(now: u64, interval: Option<u32>) -> Option<Expiry>
+pub(crate) fn expiry_from(now: u64, interval: Option<u32>) -> Option<Expiry>
     ensures { result ≡ expiry_from now interval }
 {
     match interval {

@@ -44,7 +44,7 @@ pub fn is_message_too_long(
     subscription: Option<SubscriptionIdentifier>,
     maximum_packet_size: Option<MaximumPacketSize>,
 ) -> Result<bool, AllocError>
-    ensures { IfOk result (λ big. big ≡ is_message_too_long maximum_packet_size subscription message.now) }
+    ensures { IfOk result (λ too_long. too_long ≡ is_message_too_long maximum_packet_size subscription message.now) }
 {
     if maximum_packet_size.is_none() {
         return Ok(false);

@@ -64,9 +64,9 @@ module _ {S P : Type 0} (call : S → SupplyCall P → S → Type 0) (terms : Ha
   pub discarded_next : (envelopes : List Held) (old mid taken_mid new : S) (place between taken place' : P) (envelope : Held) → Discards call terms old place envelopes between mid
       → call mid (MayTake between true) mid → AsksFor call mid between (Some envelope) taken taken_mid → is_discarded terms envelope.message ≡ true
       → call taken_mid (Settle taken place' envelope Discarded) new → Discards call terms old place (envelopes ++ envelope ∷ []) place' new
-  discarded_next envelopes old mid taken_mid new place between taken place' envelope before allowed asked unfit settled =
+  discarded_next envelopes old mid taken_mid new place between taken place' envelope before allowed asked reason settled =
       one_more_discarded envelopes old mid new place between place' envelope before
-      (record { taken = taken; mid = taken_mid; allowed = allowed; asked = asked; unfit = unfit; settled = settled })
+      (record { taken = taken; mid = taken_mid; allowed = allowed; asked = asked; reason = reason; settled = settled })
 
   -- after these were discarded one is found that may be sent
   pub found_one : (envelopes : List Held) (old mid new : S) (place between place' : P) (envelope : Held) → length envelopes < most_discards → Discards call terms old place envelopes between mid

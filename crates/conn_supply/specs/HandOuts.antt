@@ -68,7 +68,7 @@ module _ {S P : Type 0} (call : S → SupplyCall P → S → Type 0) (terms : Ha
     pub mid : S
     pub allowed : call old (MayTake place true) old
     pub asked : AsksFor call old place (Some envelope) taken mid
-    pub unfit : is_discarded terms envelope.message ≡ true
+    pub reason : is_discarded terms envelope.message ≡ true
     pub settled : call mid (Settle taken place' envelope Discarded) new
 
   -- these are discarded, one after the other

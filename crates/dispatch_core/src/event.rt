@@ -31,7 +31,7 @@ pub enum Event {
     /// A member refuses a job that it holds: a PUBACK with a reason code of 0x80 or greater. Nobody else
     /// is handed the job (4.8.2).
     Refuse { member: u8, job: Job },
-    /// A member is not sent a job that it was handed: it is too late or too long for it. Nobody else is
+    /// A member is not sent a job that it was handed: it has expired, or is too long for it. Nobody else is
     /// handed the job (3.3.2.3.3, 3.1.2.11.4).
     Discard { member: u8, job: Job },
     /// A job goes back from a member whose session ended (4.8.2).

@@ -7,7 +7,7 @@ pub enum Fate {
     Acknowledged,
     /// It was refused: a PUBACK with a reason code of 0x80 or greater. Nobody else is handed it (section 4.8.2).
     Refused,
-    /// It was not sent: it was too late or too long for the member's client. Nobody else is handed it (sections 3.3.2.3.3 and
+    /// It was not sent: it had expired, or was too long for the member's client. Nobody else is handed it (sections 3.3.2.3.3 and
     /// 3.1.2.11.4).
     Discarded,
 }

@@ -31,7 +31,7 @@ pub(crate) const SCENARIOS: [Scenario<'static>; 4] = [
 > $share/g/job accepted 2 acknowledged 1 refused 0 held 0 queued 0 returned 1 discarded 0
 ",
     },
-    // Once it has waited that long, and at once with an interval of 0, it goes to nobody, and what is behind it does.
+    // Once it has waited that long, and at once with an interval of 0, it goes to nobody, and what is behind it goes out.
     Scenario {
         name: "expired",
         capacity: 1_024,

@@ -250,7 +250,7 @@ discards_one : (slot : ℕ) (solo : SoloState) → solo.membership ≡ Member sl
 discards_one slot solo member window room old shows holds envelope place' mid does =
     let next = least_free (unacknowledged solo) in
     let got = discards_found slot solo member window old shows holds envelope does.taken place' does.mid mid does.asked does.settled in
-    let discarded : is_discarded (terms_in solo) envelope.message ≡ true = does.unfit in
+    let discarded : is_discarded (terms_in solo) envelope.message ≡ true = does.reason in
     let one : next_hand_out slot envelope.message solo ≡ handed slot solo.subscription next Discarded = ap (λ b. handed slot solo.subscription next (outcome_of b)) discarded in
     let later = with_hand_out (next_hand_out slot envelope.message solo) solo in (
       got.0,

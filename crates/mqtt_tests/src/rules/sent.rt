@@ -149,7 +149,7 @@ fn messages_that_expire(rt: HostRuntime) -> Result<(), Fail> {
         seconds: 10,
         accepted_at: 2_000,
     });
-    let none = Some(Expiry {
+    let zero = Some(Expiry {
         seconds: 0,
         accepted_at: 2_000,
     });
@@ -165,7 +165,7 @@ fn messages_that_expire(rt: HostRuntime) -> Result<(), Fail> {
         (12_000, ten, true, Some(0)),
         (u64::MAX, ten, true, Some(0)),
         (0, ten, false, Some(10)),
-        (2_000, none, true, Some(0)),
+        (2_000, zero, true, Some(0)),
         (4_294_967_296_999, longest, false, Some(1)),
         (4_294_967_297_000, longest, true, Some(0)),
         (u64::MAX, None, false, None),
