@@ -1,5 +1,6 @@
 pub mod Ended
 pub mod Quotas
+pub mod TermsAsked
 pub mod Limits
 pub mod Eager
 pub mod Replying
@@ -28,3 +29,5 @@ pub mod Forwarding
 pub mod Replies
 pub mod Sending
 pub mod Subscriptions
+pub mod SameSize
+pub mod Fitting

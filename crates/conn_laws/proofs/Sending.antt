@@ -1,5 +1,6 @@
 -- What a step sends: small packets, CONNACKs that assign an identifier, and messages that are handed on.
 use Rattle.std.proofs.Common.{◌≡◌, ℕ, suc, ◌≤◌, Bool, true, false, List, [], ◌∷◌, ◌++◌, length, Option, Some, None, Result, Ok, Err, refl, sym, ap, subst, ◌∙◌, arith, inl, inr, if◌then◌else◌, nat_lt, ltb-false}
+use Rattle.std.specs.Prelude.{⊤}
 use Rattle.std.specs.List.{AllByRecursion}
 use Rattle.std.specs.Option.{option_to_list}
 use Rattle.mqtt_packet.specs.Texts.{is_text}
@@ -13,6 +14,8 @@ use Rattle.mqtt_packet.specs.declared.packet.Unsubscribe.{Unsubscribe}
 use Rattle.group_jobs.specs.Stamps.{Held}
 use Rattle.member_window.specs.Contents.{Contents, after_resend}
 use Rattle.session_desk.specs.Sessions.{Who}
+use Rattle.session_desk.specs.Names.{assigned_name}
+use Rattle.session_desk.specs.Attaching.{Request, asked}
 use Rattle.session_desk.specs.declared.attached.Attached.{Attached}
 use Rattle.session_desk.specs.declared.attached.Attached.TheVariants.{New, Resumed, Replace, Busy}
 use Rattle.session_desk.specs.declared.error.DeskError.{DeskError}
@@ -33,6 +36,7 @@ use Rattle.conn_supply.specs.declared.reply.Then.{Then}
 use Rattle.conn_supply.specs.declared.reply.Reply.{Reply}
 use Rattle.conn_rules.specs.declared.hand_outs.HandOutTerms.{HandOutTerms}
 use Rattle.conn_supply.specs.SupplyCalls.{SupplyCall}
+use Rattle.conn_supply.specs.SupplyCalls.SupplyCall.{Attach}
 use Rattle.conn_supply.specs.HandOuts.{SendsAgain, SendsFresh, HandsFresh}
 use Rattle.conn_supply.specs.Publishing.{AnswersPublish}
 use Rattle.conn_supply.specs.Subscribing.{AnswersEntries, LeavesByAll, SubscribesAs, UnsubscribesAs}
@@ -47,6 +51,7 @@ use Rattle.conn_engine.specs.Answering.{DisconnectsIf, Disconnects, Answers}
 use Rattle.conn_engine.specs.Connecting.{assigned, name_if, holds_message_too_long, most_ticks, IsRefused, Accepts, WaitsAs, ResumesAs, AttachedAs}
 use Rattle.conn_engine.specs.Step.{hand_out_terms, hearing, IsClosed, IsRefusedIf, WaitsForConnect, AnswersFirst, AnswersPacket, AnswersTick, AnswersUnlessKicked, IsHeard, Reacts, Hands, Steps}
 use Rattle.conn_laws.specs.Sizes.{IsSmall, IsShort, HandsOn, IsAnswer, IsAnswerUnlessHandedOn, IsShortUnlessHandedOn}
+use Rattle.conn_laws.specs.PacketSizes.{HasAssignedName, AreNamesAssigned}
 use Rattle.conn_laws.proofs.Replies as replies
 
 -- ---- packets, and lists of them
@@ -59,7 +64,7 @@ abbrev HandOn : List Packet → Type 0
 HandOn sent = AllByRecursion HandsOn sent
 
 -- all packets are of a kind, where all are of another from which it follows
-all_are : {Is Are : Packet → Type 0} → ((packet : Packet) → Is packet → Are packet) → (sent : List Packet) → AllByRecursion Is sent → AllByRecursion Are sent
+pub all_are : {Is Are : Packet → Type 0} → ((packet : Packet) → Is packet → Are packet) → (sent : List Packet) → AllByRecursion Is sent → AllByRecursion Are sent
 all_are follows [] are = tt
 all_are follows (packet ∷ packets) are = (follows packet are.0, all_are follows packets are.1)
 
@@ -83,16 +88,6 @@ kept_short sent are = all_are short_unless sent are
 
 -- ---- replies
 
--- the packet of a reply, if there is one, is small, or assigns an identifier
-abbrev pub IsBrief : Reply → Type 0
-IsBrief reply = AreAnswers (option_to_list reply.packet)
-
-told : (reply was : Reply) → reply ≡ was → IsBrief was → IsBrief reply
-told reply was is brief = subst IsBrief (sym is) brief
-
-one : (packet : Packet) → IsSmall packet → AreAnswers (packet ∷ [])
-one packet small = (inl small, tt)
-
 refused_is_small : (refusal : ConnectRefusal) → IsSmall (refusing refusal)
 refused_is_small refusal = omega (arith, replies.refused refusal)
 
@@ -112,46 +107,25 @@ answered_is_small : IsSmall packets.Pingresp
 answered_is_small = omega (arith, replies.answered)
 
 -- a CONNACK with an identifier that was assigned, where that is a text
-named_if : (present : Bool) (name : List ℕ) (text : Bool) → is_text name ≡ text → AreAnswers (accepting present (name_if text name) ∷ [])
-named_if present name true is = (inr (record { present = present; name = name; text = is; is = refl }), tt)
-named_if present name false is = one (accepting present None) (replies.accepted present)
+named_if : (present : Bool) (name : List ℕ) (text : Bool) → is_text name ≡ text → IsAnswer (accepting present (name_if text name))
+named_if present name true is = inr (record { present = present; name = name; text = is; is = refl })
+named_if present name false is = inl (replies.accepted present)
 
-assigning : (present : Bool) (client : List ℕ) (who : Who) → AreAnswers (accepting present (assigned client who) ∷ [])
-assigning present [] who = named_if present who.client (is_text who.client) refl
-assigning present (byte ∷ bytes) who = one (accepting present None) (replies.accepted present)
+assigning : (client : List ℕ) (who : Who) (present : Bool) → IsAnswer (accepting present (assigned client who))
+assigning [] who present = named_if present who.client (is_text who.client) refl
+assigning (byte ∷ bytes) who present = inl (replies.accepted present)
 
-closes : {P : Type 0} (phase : ConnPhase P) (reply : Reply) → IsClosed phase reply → IsBrief reply
-closes phase reply is = told reply _ is.told tt
+-- .. and with one that a desk assigns
+desk_named_if : (present : Bool) (number : ℕ) (text : Bool) → IsSmall (accepting present (name_if text (assigned_name number)))
+desk_named_if present number true = replies.assigned_is_small present number
+desk_named_if present number false = replies.accepted present
 
-refuses : {P : Type 0} (phase : ConnPhase P) (reply : Reply) (refusal : ConnectRefusal) → IsRefused refusal phase reply → IsBrief reply
-refuses phase reply refusal is = told reply _ is.told (one (refusing refusal) (refused_is_small refusal))
-
-accepts : {P : Type 0} (phase : ConnPhase P) (reply : Reply) (request : ConnectRequest) (present : Bool) (session : Session Held P)
-    → Accepts request present session phase reply → IsBrief reply
-accepts phase reply request present session is = told reply _ is.told (assigning present request.client session.identity)
-
-waits : {P : Type 0} (fewer : Bool) (phase : ConnPhase P) (reply : Reply) (request : ConnectRequest) (ticks : ℕ) → WaitsAs fewer request ticks phase reply → IsBrief reply
-waits true phase reply request ticks is = told reply _ is.1 tt
-waits false phase reply request ticks is = refuses phase reply _ is
-
-refused_if : {P : Type 0} (refusal : Option ConnectRefusal) (phase : ConnPhase P) (reply : Reply) → IsRefusedIf refusal phase reply → IsBrief reply
-refused_if (Some refusal) phase reply is = refuses phase reply refusal is
-refused_if None phase reply is = closes phase reply is
-
-waits_for_connect : {P : Type 0} (late : Bool) (opened : Opening) (phase : ConnPhase P) (reply : Reply) → WaitsForConnect late opened phase reply → IsBrief reply
-waits_for_connect true opened phase reply is = closes phase reply is
-waits_for_connect false opened phase reply is = told reply _ is.1 tt
-
-closing : (reply was : Reply) (code : ℕ) → reply ≡ was → was.packet ≡ Some (disconnect code) → IsBrief reply
-closing reply was code is with_code = told reply was is (subst (λ packet. AreAnswers (option_to_list packet)) (sym with_code) (one (disconnect code) (closed_is_small code)))
-
-disconnects_if : {P : Type 0} (given : Bool) (connected connected' : ConnectedClient P) (seconds : ℕ) (reply : Reply) → DisconnectsIf given connected seconds connected' reply → IsBrief reply
-disconnects_if true connected connected' seconds reply is = closing reply _ 0x82 is.1 refl
-disconnects_if false connected connected' seconds reply is = told reply _ is.1 tt
-
-disconnects : {P : Type 0} (expiry : Option ℕ) (connected connected' : ConnectedClient P) (reply : Reply) → Disconnects connected expiry connected' reply → IsBrief reply
-disconnects None connected connected' reply is = told reply _ is.1 tt
-disconnects (Some seconds) connected connected' reply is = disconnects_if _ connected connected' seconds reply is
+-- of such a kind are the CONNACKs that a client is sent which is given the session of this answer
+abbrev pub MayAccept : {P : Type 0} → (Packet → Type 0) → List ℕ → Attached Held P → Type 0
+MayAccept Is client (New session ended) = (present : Bool) → Is (accepting present (assigned client session.identity))
+MayAccept Is client (Resumed session) = (present : Bool) → Is (accepting present (assigned client session.identity))
+MayAccept Is client (Replace holder) = ⊤
+MayAccept Is client Busy = ⊤
 
 -- of a list that was not refused for its length, there are few
 not_refused : (many : Bool) (code : ℕ) (rest : Option ℕ) → (if many then Some code else rest) ≡ None → many ≡ false
@@ -170,31 +144,78 @@ again now [] old new sends = tt
 again now (packet ∷ packets) old new sends =
     (record { now = now; dup = true; message = sends.0.1.message; subscription = sends.0.1.subscription; identifier = sends.0.0; is = sends.2 }, again now packets (after_resend old (Some sends.0)) new sends.3)
 
-module _ {S P : Type 0} (call : S → SupplyCall P → S → Type 0) (slot_of : P → ℕ) where
+-- packets of a kind that each small one is of, and each CONNACK that a client is sent which is given a session
+module _ {S P : Type 0} (call : S → SupplyCall P → S → Type 0) (slot_of : P → ℕ) (Is : Packet → Type 0) (small : (packet : Packet) → IsSmall packet → Is packet)
+    (given : (old new : S) (asks : Request) (answer : Attached Held P) → call old (Attach asks (Ok answer)) new → MayAccept Is asks.client answer) where
+  -- the packet of a reply, if there is one, is of this kind
+  abbrev IsBrief : Reply → Type 0
+  IsBrief reply = AllByRecursion Is (option_to_list reply.packet)
+
+  told : (reply was : Reply) → reply ≡ was → IsBrief was → IsBrief reply
+  told reply was is brief = subst IsBrief (sym is) brief
+
+  one : (packet : Packet) → IsSmall packet → AllByRecursion Is (packet ∷ [])
+  one packet is = (small packet is, tt)
+
+  closes : (phase : ConnPhase P) (reply : Reply) → IsClosed phase reply → IsBrief reply
+  closes phase reply is = told reply _ is.told tt
+
+  refuses : (phase : ConnPhase P) (reply : Reply) (refusal : ConnectRefusal) → IsRefused refusal phase reply → IsBrief reply
+  refuses phase reply refusal is = told reply _ is.told (one (refusing refusal) (refused_is_small refusal))
+
+  accepts : (phase : ConnPhase P) (reply : Reply) (request : ConnectRequest) (present : Bool) (session : Session Held P)
+      → ((given : Bool) → Is (accepting given (assigned request.client session.identity))) → Accepts request present session phase reply → IsBrief reply
+  accepts phase reply request present session may is = told reply _ is.told (may present, tt)
+
+  waits : (fewer : Bool) (phase : ConnPhase P) (reply : Reply) (request : ConnectRequest) (ticks : ℕ) → WaitsAs fewer request ticks phase reply → IsBrief reply
+  waits true phase reply request ticks is = told reply _ is.1 tt
+  waits false phase reply request ticks is = refuses phase reply _ is
+
+  refused_if : (refusal : Option ConnectRefusal) (phase : ConnPhase P) (reply : Reply) → IsRefusedIf refusal phase reply → IsBrief reply
+  refused_if (Some refusal) phase reply is = refuses phase reply refusal is
+  refused_if None phase reply is = closes phase reply is
+
+  waits_for_connect : (late : Bool) (opened : Opening) (phase : ConnPhase P) (reply : Reply) → WaitsForConnect late opened phase reply → IsBrief reply
+  waits_for_connect true opened phase reply is = closes phase reply is
+  waits_for_connect false opened phase reply is = told reply _ is.1 tt
+
+  closing : (reply was : Reply) (code : ℕ) → reply ≡ was → was.packet ≡ Some (disconnect code) → IsBrief reply
+  closing reply was code is with_code = told reply was is (subst (λ packet. AllByRecursion Is (option_to_list packet)) (sym with_code) (one (disconnect code) (closed_is_small code)))
+
+  disconnects_if : (given : Bool) (connected connected' : ConnectedClient P) (seconds : ℕ) (reply : Reply) → DisconnectsIf given connected seconds connected' reply → IsBrief reply
+  disconnects_if true connected connected' seconds reply is = closing reply _ 0x82 is.1 refl
+  disconnects_if false connected connected' seconds reply is = told reply _ is.1 tt
+
+  disconnects : (expiry : Option ℕ) (connected connected' : ConnectedClient P) (reply : Reply) → Disconnects connected expiry connected' reply → IsBrief reply
+  disconnects None connected connected' reply is = told reply _ is.1 tt
+  disconnects (Some seconds) connected connected' reply is = disconnects_if _ connected connected' seconds reply is
+
   -- ---- a connection without its session
 
   resumes : (no : Bool) (old new : S) (request : ConnectRequest) (session : Session Held P) (phase : ConnPhase P) (reply : Reply)
-      → ResumesAs call no old request session phase reply new → IsBrief reply
-  resumes true old new request session phase reply is = refuses phase reply _ is.1
-  resumes false old new request session phase reply is = accepts phase reply request true session is.1
+      → ((present : Bool) → Is (accepting present (assigned request.client session.identity))) → ResumesAs call no old request session phase reply new → IsBrief reply
+  resumes true old new request session phase reply may is = refuses phase reply _ is.1
+  resumes false old new request session phase reply may is = accepts phase reply request true session may is.1
 
-  attached : (answer : Result (Attached Held P) DeskError) (old new : S) (request : ConnectRequest) (ticks : ℕ) (phase : ConnPhase P) (reply : Reply)
-      → AttachedAs call old request ticks answer phase reply new → IsBrief reply
-  attached (Ok (New session ended)) old new request ticks phase reply is = accepts phase reply request false session is.1
-  attached (Ok (Resumed session)) old new request ticks phase reply is =
-      resumes (holds_message_too_long request.terms.maximum_packet_size session.window) old new request session phase reply is
-  attached (Ok (Replace holder)) old new request ticks phase reply is = waits (nat_lt ticks most_ticks) phase reply request ticks is.0
-  attached (Ok Busy) old new request ticks phase reply is = refuses phase reply _ is.0
-  attached (Err errors.Full) old new request ticks phase reply is = refuses phase reply _ is.0
-  attached (Err errors.NoPlace) old new request ticks phase reply is = refuses phase reply _ is.0
-  attached (Err errors.NoName) old new request ticks phase reply is = refuses phase reply _ is.0
-  attached (Err errors.Memory) old new request ticks phase reply is = absurd is
+  attached : (answer : Result (Attached Held P) DeskError) (before old new : S) (number now : ℕ) (request : ConnectRequest) (ticks : ℕ) (phase : ConnPhase P) (reply : Reply)
+      → call before (Attach (asked number request.client request.clean_start now) answer) old → AttachedAs call old request ticks answer phase reply new → IsBrief reply
+  attached (Ok (New session ended)) before old new number now request ticks phase reply asked_for is =
+      accepts phase reply request false session (given before old (asked number request.client request.clean_start now) (New session ended) asked_for) is.1
+  attached (Ok (Resumed session)) before old new number now request ticks phase reply asked_for is =
+      resumes (holds_message_too_long request.terms.maximum_packet_size session.window) old new request session phase reply
+      (given before old (asked number request.client request.clean_start now) (Resumed session) asked_for) is
+  attached (Ok (Replace holder)) before old new number now request ticks phase reply asked_for is = waits (nat_lt ticks most_ticks) phase reply request ticks is.0
+  attached (Ok Busy) before old new number now request ticks phase reply asked_for is = refuses phase reply _ is.0
+  attached (Err errors.Full) before old new number now request ticks phase reply asked_for is = refuses phase reply _ is.0
+  attached (Err errors.NoPlace) before old new number now request ticks phase reply asked_for is = refuses phase reply _ is.0
+  attached (Err errors.NoName) before old new number now request ticks phase reply asked_for is = refuses phase reply _ is.0
+  attached (Err errors.Memory) before old new number now request ticks phase reply asked_for is = absurd is
 
   answers_first : (answer : FirstAnswer) (old new : S) (number max_inflight now : ℕ) (packet : Packet) (phase : ConnPhase P) (reply : Reply)
       → AnswersFirst call slot_of answer old number max_inflight now packet phase reply new → IsBrief reply
   answers_first first.Close old new number max_inflight now packet phase reply is = closes phase reply is.0
   answers_first (first.Refuse refusal) old new number max_inflight now packet phase reply is = refuses phase reply refusal is.0
-  answers_first first.Attach old new number max_inflight now packet phase reply is = attached is.2.answer is.2.mid new _ 0 phase reply is.2.answered
+  answers_first first.Attach old new number max_inflight now packet phase reply is = attached is.2.answer old is.2.mid new number now _ 0 phase reply is.2.asked_for is.2.answered
 
   -- ---- a connection with its session
 
@@ -256,7 +277,7 @@ module _ {S P : Type 0} (call : S → SupplyCall P → S → Type 0) (slot_of : 
   unless_kicked true old new connected now Does phase reply does is = closing reply _ 0x8E is.0 refl
   unless_kicked false old new connected now Does phase reply does is = does is
 
-  pub replied : (phase : ConnPhase P) (input : Input) (old new : S) (number now : ℕ) (between : ConnPhase P) (reply : Reply)
+  replied : (phase : ConnPhase P) (input : Input) (old new : S) (number now : ℕ) (between : ConnPhase P) (reply : Reply)
       → Reacts call slot_of old number phase now input between reply new → IsBrief reply
   replied (Unconnected opened) (inputs.Packet packet) old new number now between reply is = answers_first (first_answer packet) old new number opened.max_inflight now packet between reply is
   replied (Unconnected opened) (inputs.Fault fault) old new number now between reply is = refused_if (fault_refusal fault) between reply is.0
@@ -266,7 +287,7 @@ module _ {S P : Type 0} (call : S → SupplyCall P → S → Type 0) (slot_of : 
   replied (Waiting request ticks) (inputs.Packet packet) old new number now between reply is = absurd is
   replied (Waiting request ticks) (inputs.Fault fault) old new number now between reply is = absurd is
   replied (Waiting request ticks) inputs.Tick old new number now between reply is =
-      let again = is.2.attaches in attached again.answer again.mid _ _ _ between reply again.answered
+      let again = is.2.attaches in attached again.answer is.0 again.mid _ number now _ _ between reply again.asked_for again.answered
   replied (Waiting request ticks) inputs.EndOfInput old new number now between reply is = closes between reply is.1
   replied (Waiting request ticks) inputs.Closing old new number now between reply is = closes between reply is.1
   replied (Connected connected) (inputs.Packet packet) old new number now between reply is =
@@ -279,6 +300,36 @@ module _ {S P : Type 0} (call : S → SupplyCall P → S → Type 0) (slot_of : 
   replied (Connected connected) inputs.EndOfInput old new number now between reply is = told reply _ is.0 tt
   replied (Connected connected) inputs.Closing old new number now between reply is = closing reply _ 0x8B is.0 refl
   replied Ended input old new number now between reply is = closes between reply is.0
+
+-- what is sent at large: each answer, and what is handed out after it
+module _ {S P : Type 0} (call : S → SupplyCall P → S → Type 0) (slot_of : P → ℕ) where
+  any_given : (old new : S) (asks : Request) (answer : Attached Held P) → call old (Attach asks (Ok answer)) new → MayAccept IsAnswer asks.client answer
+  any_given old new asks (New session ended) attaches = assigning asks.client session.identity
+  any_given old new asks (Resumed session) attaches = assigning asks.client session.identity
+  any_given old new asks (Replace holder) attaches = tt
+  any_given old new asks Busy attaches = tt
+
+  -- a reply is small, or assigns an identifier
+  pub any_answers : (phase : ConnPhase P) (input : Input) (old new : S) (number now : ℕ) (between : ConnPhase P) (reply : Reply)
+      → Reacts call slot_of old number phase now input between reply new → AreAnswers (option_to_list reply.packet)
+  any_answers phase input old new number now between reply is = replied call slot_of IsAnswer (λ packet is. inl is) any_given phase input old new number now between reply is
+
+  named : (client : List ℕ) (session : Session Held P) → (client ≡ [] → HasAssignedName session) → (present : Bool) → IsSmall (accepting present (assigned client session.identity))
+  named [] session has present =
+      let its = has refl in
+      subst (λ name. IsSmall (accepting present (name_if (is_text name) name))) (sym its.1) (desk_named_if present its.0 (is_text (assigned_name its.0)))
+  named (byte ∷ bytes) session has present = replies.accepted present
+
+  names_given : AreNamesAssigned call → (old new : S) (asks : Request) (answer : Attached Held P) → call old (Attach asks (Ok answer)) new → MayAccept IsSmall asks.client answer
+  names_given assigns old new asks (New session ended) attaches = named asks.client session (λ none. assigns old new asks (New session ended) none attaches)
+  names_given assigns old new asks (Resumed session) attaches = named asks.client session (λ none. assigns old new asks (Resumed session) none attaches)
+  names_given assigns old new asks (Replace holder) attaches = tt
+  names_given assigns old new asks Busy attaches = tt
+
+  -- it is small, where each identifier is one that a desk assigns
+  pub small_answers : AreNamesAssigned call → (phase : ConnPhase P) (input : Input) (old new : S) (number now : ℕ) (between : ConnPhase P) (reply : Reply)
+      → Reacts call slot_of old number phase now input between reply new → AllByRecursion IsSmall (option_to_list reply.packet)
+  small_answers assigns phase input old new number now between reply is = replied call slot_of IsSmall (λ packet is. is) (names_given assigns) phase input old new number now between reply is
 
   -- ---- what is handed out after the reply
 
@@ -313,5 +364,5 @@ module _ {S P : Type 0} (call : S → SupplyCall P → S → Type 0) (slot_of : 
   sent old new number now phase phase' input packets next steps =
       subst (AllByRecursion IsAnswerUnlessHandedOn) (sym steps.written)
       (both IsAnswerUnlessHandedOn (option_to_list steps.reply.packet) steps.sent
-      (all_are (λ packet answer. inl answer) (option_to_list steps.reply.packet) (replied phase input old steps.mid number now steps.between steps.reply steps.reacts))
+      (all_are (λ packet answer. inl answer) (option_to_list steps.reply.packet) (any_answers phase input old steps.mid number now steps.between steps.reply steps.reacts))
       (all_are (λ packet on. inr on) steps.sent (handed steps.between phase' now steps.mid new steps.sent steps.hands)))

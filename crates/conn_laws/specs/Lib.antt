@@ -8,4 +8,5 @@ pub mod ReturnedFirst
 pub mod Marks
 pub mod Transcripts
 pub mod Sizes
+pub mod PacketSizes
 pub mod Subscriptions

@@ -7,7 +7,7 @@ mod laws;
 mod sizes;
 
 pub use laws::{
-    calls_law, eager_law, ended_law, one_step_law, publisher_law, quota_law, returned_first_law,
-    transcript_law,
+    calls_law, eager_law, ended_law, identifier_law, one_step_law, publisher_law, quota_law,
+    returned_first_law, transcript_law,
 };
-pub use sizes::{forwarded_law, replies_law, short_replies_law, writable_law};
+pub use sizes::{forwarded_law, packet_size_law, replies_law, short_replies_law, writable_law};

@@ -17,6 +17,7 @@ ghost use Rattle.conn_supply.specs.declared.reply.Then.{Then};
 ghost use Rattle.conn_engine.specs.declared.input.Input.{Input};
 ghost use Rattle.conn_engine.specs.declared.phase.ConnPhase.{ConnPhase};
 ghost use Rattle.conn_engine.specs.Step.{Steps};
+ghost use Rattle.conn_laws.specs.PacketSizes.{maximum_named, HasMaximum, Takes, HoldsWhatFits, TakesUnlessAssigns, AreNewEmpty, AreNamesAssigned};
 ghost use Rattle.conn_laws.specs.Sizes.{IsSmall, IsShort, IsLight, IsAnswerUnlessHandedOn, IsShortUnlessHandedOn, most_publish_bytes};
 
 use conn_supply::{HoldingPlace, Supply};
@@ -70,4 +71,32 @@ pub fn short_replies_law<P: HoldingPlace, S: Supply<P>>()
     ensures small { (number now : ℕ) (phase phase' : ConnPhase P) (input : Input) (packets : List Packet) (next : Then) (old new : S) →
         Steps S.call P.slot_of old number phase now input packets next phase' new →
         AllByRecursion IsAnswerUnlessHandedOn packets }
+{}
+
+/// **No packet is longer than its client takes** (section 3.1.2.11.4): where a connection holds what fits, its client takes each packet of a step, by
+/// the Maximum Packet Size that it has named in the CONNECT that comes or came (`fits`); and after the step the connection holds what fits (`kept`), as
+/// one does that is opened. So it is with each message, sent for the first time or again, and with each reply.
+///
+/// - It holds over every supply whose new sessions hold nothing. What a resumed session holds is looked at before its client is accepted.
+/// - One packet may be longer: a CONNACK that assigns an identifier (3.2.2.3.7). Where each identifier is one that a desk assigns, none is (`named`).
+/// - A connection has the Maximum Packet Size that its client has named, and keeps it (`same`).
+/// - A packet that a client takes is written in no more bytes than its Maximum Packet Size, which is a number of four bytes (`measured`).
+pub fn packet_size_law<P: HoldingPlace, S: Supply<P>>()
+    ensures kept { (number now : ℕ) (phase phase' : ConnPhase P) (input : Input) (packets : List Packet) (next : Then) (old new : S) →
+        AreNewEmpty S.call →
+        Steps S.call P.slot_of old number phase now input packets next phase' new →
+        HoldsWhatFits phase → HoldsWhatFits phase' }
+    ensures fits { (number now : ℕ) (phase phase' : ConnPhase P) (input : Input) (packets : List Packet) (next : Then) (old new : S) →
+        AreNewEmpty S.call →
+        Steps S.call P.slot_of old number phase now input packets next phase' new →
+        HoldsWhatFits phase → AllByRecursion (TakesUnlessAssigns (maximum_named phase input)) packets }
+    ensures named { (number now : ℕ) (phase phase' : ConnPhase P) (input : Input) (packets : List Packet) (next : Then) (old new : S) →
+        AreNewEmpty S.call → AreNamesAssigned S.call →
+        Steps S.call P.slot_of old number phase now input packets next phase' new →
+        HoldsWhatFits phase → AllByRecursion (Takes (maximum_named phase input)) packets }
+    ensures same { (number now : ℕ) (phase phase' : ConnPhase P) (input : Input) (packets : List Packet) (next : Then) (old new : S) →
+        Steps S.call P.slot_of old number phase now input packets next phase' new →
+        HasMaximum (maximum_named phase input) phase' }
+    ensures measured { (maximum : ℕ) (packet : Packet) → maximum ≤ 4294967295 → Takes (Some maximum) packet →
+        length (written packet) ≤ maximum }
 {}
