@@ -14,3 +14,5 @@ pub mod Ended
 pub mod Phases
 pub mod Sessions
 pub mod Marks
+pub mod Turns
+pub mod Giving

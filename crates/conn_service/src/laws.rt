@@ -67,12 +67,18 @@ pub fn session_law<P: HoldingPlace, T: Transport, S: Supply<P>>()
         Does S.call S.begins S.ends S.visiting P.slot_of T.counts T.given T.accepted act old supply new supply' → TellsItsSession S.call act old supply new supply' }
 {}
 
-/// **The PUBLISH packets of a life are those of a legal transcript** (sections 4.4 and 4.9), from what the window held of the session that the connection
-/// was given: each message that is sent for the first time goes out with DUP 0 under the least identifier that is free, after all that is sent again;
-/// what is sent again has its own identifier, in the order of first sending; only what is held is acknowledged; and no more is unacknowledged than the
-/// Receive Maximum, at each moment. A connection that was given no session sends no PUBLISH.
+/// **The PUBLISH packets of a life are those of a legal transcript** (sections 4.4 and 4.9). Either no PUBLISH is sent in a life, or the connection is given a
+/// session in it: by one of its acts, in whose step the supply hands the session out. For every session that is given in the life so: it was asked for
+/// under the connection's number; the connection has the terms of a CONNECT that came by then, its Receive Maximum cut to the limit that the connection was
+/// opened with; no PUBLISH is sent before that act, and no later act gives another. And unless its window is ending, from that act on each act adds its own marks to the transcript of the session, as [`session_law`] has them of each step, and all of them are legal from what the window of
+/// the session held when it was given: each message that is sent for the first time goes out with DUP 0 under the least identifier that is free, after all that
+/// is sent again; what is sent again has its own identifier, in the order of first sending; only what is held is acknowledged; and no more is
+/// unacknowledged than the Receive Maximum, at each moment. The marks of an act are tied to it: its PUBLISH packets are theirs, each with what is left of its
+/// message's interval at the moment of the act (section 3.3.2.3.3); what they acknowledge is the PUBACK that its step is given, one at most, and none for what
+/// is held is passed over, unless another connection took the session; `Up` comes first, with the Receive Maximum of the connection's terms, and in no
+/// later act; and `Down` only in an act whose step ends the connection.
 pub fn transcript_law<P: HoldingPlace, T: Transport, S: Supply<P>>()
     ensures { (number : ℕ) (opening : Opening) (first : T) (acts : List Act) (service : ServiceState P T) (supply supply' : S) →
         DoesAll S.call S.begins S.ends S.visiting P.slot_of T.counts T.given T.accepted acts (opened number opening first) supply service supply' →
-        IsLegalLife S.call number acts }
+        IsLegalLife S.call S.begins S.ends S.visiting P.slot_of T.counts T.given T.accepted opening.max_inflight acts (opened number opening first) supply service supply' }
 {}
