@@ -49,7 +49,7 @@ one_more_gone number clients before there below each less =
     (λ (other : each ≢ number). slice_get-set_other clients number each None other ∙ below each (omega arith))
     (cases_eq each number)
 
-gone_below : (number : ℕ) (old new : Broker) (clients clients' : Clients) (now : ℕ) (said : List StepOutput) (result : Result (Unit {0}) NoMemory)
+pub gone_below : (number : ℕ) (old new : Broker) (clients clients' : Clients) (now : ℕ) (said : List StepOutput) (result : Result (Unit {0}) NoMemory)
     → EndsFirst number old clients now said result clients' new → HasNoneBelow number clients'
 gone_below zero old new clients clients' now said result ends = λ each less. absurd (omega (arith, less))
 gone_below (suc number) old new clients clients' now said result ends =

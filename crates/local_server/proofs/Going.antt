@@ -22,7 +22,7 @@ use Rattle.local_server.specs.Happening.{slot_of}
 use Rattle.local_server.proofs.Stepping.{GoesAs}
 
 -- it goes on unless it has ended
-goes : (next : Then) (phase : ConnPhase GroupPlace) → (next ≢ Go → phase ≡ Ended) → phase ≢ Ended → next ≡ Go
+pub goes : (next : Then) (phase : ConnPhase GroupPlace) → (next ≢ Go → phase ≡ Ended) → phase ≢ Ended → next ≡ Go
 goes Go phase ended up = refl
 goes Close phase ended up = absurd (up (ended (λ is. cc)))
 goes Kicked phase ended up = absurd (up (ended (λ is. cc)))

@@ -241,7 +241,7 @@ none_at (suc count) (suc connection) = none_at count connection
 nobody : (setup : Setup) (server : ServerState) → IsNewServer setup server → (connection : ℕ) → connected_at server.clients connection ≡ None
 nobody setup server new connection = ap (λ (l : Clients). connected_at l connection) new.clients ∙ none_at 64 connection
 
-new_sessions : (setup : Setup) (server : ServerState) → IsNewServer setup server → KeepsSessions [] server.broker.desk (all_connected_at server.clients)
+pub new_sessions : (setup : Setup) (server : ServerState) → IsNewServer setup server → KeepsSessions [] server.broker.desk (all_connected_at server.clients)
 new_sessions setup server new =
     let none = nobody setup server new in
     record {

@@ -16,3 +16,12 @@ pub mod Transcripts
 pub mod Settling
 pub mod Messages
 pub mod Sizes
+pub mod TakenSteps
+pub mod Connections
+pub mod Acceptance
+pub mod NothingWaits
+pub mod Unsubscribed
+pub mod PacketSizes
+pub mod ReceiveMaximums
+pub mod Discards
+pub mod WholeStreams

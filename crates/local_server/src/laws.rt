@@ -1,6 +1,7 @@
 //! Laws of a server: what holds whatever events happen to it. Each is the contract of a function that does nothing, stated over the
 //! definitions that the contract of [`Server::happen`](crate::Server::happen) cites.
-ghost use Rattle.std.specs.Prelude.{◌≡◌, ℕ, true, false, List, [], Ok, Result};
+ghost use Rattle.std.specs.Prelude.{◌≡◌, ℕ, true, false, List, [], None, Ok, Result};
+ghost use Rattle.std.specs.List.{AllByRecursion};
 ghost use Rattle.session_desk.specs.Hands.{DeskLaw};
 ghost use Rattle.conn_supply.specs.declared.supply.NoMemory.{NoMemory};
 ghost use Rattle.client_table.specs.Clients.{StepOutput};
@@ -25,6 +26,16 @@ ghost use Rattle.local_server.specs.Sizes.{AllShort, AllWritable};
 ghost use Rattle.local_server.specs.Transcripts.{KeepsTranscripts, AccountAlong};
 ghost use Rattle.local_server.specs.Eager.{AllHandReturnedFirst};
 ghost use Rattle.local_server.specs.LastEvents.{AllAddTheClose};
+ghost use Rattle.local_server.specs.TakenSteps.{TakenStep, steps_of, AllAreTaken};
+ghost use Rattle.local_server.specs.Unsubscribed.{HandsNothingToWhoLeft, HandsNothingToSessionsThatLeft};
+ghost use Rattle.local_server.specs.Connections.{AllKeepConnections, IsOfAnother};
+ghost use Rattle.local_server.specs.Streams.{client_at};
+ghost use Rattle.local_server.specs.Acceptance.{AcknowledgesWhatIsAccepted};
+ghost use Rattle.local_server.specs.NothingWaits.{LeavesNothing};
+ghost use Rattle.local_server.specs.PacketSizes.{SendsWhatFits, FitTheirConnects};
+ghost use Rattle.local_server.specs.ReceiveMaximums.{KeepToTheirConnects};
+ghost use Rattle.local_server.specs.Discards.{DiscardsExpiredOrTooLong};
+ghost use Rattle.local_server.specs.WholeStreams.{ReadsWholeStream};
 
 /// **The headline on one thread**, whatever events happen to a server, over however many connections and in whatever order, and whether memory
 /// was wanted in them or not: each accepted message is first handed to at most one member, once; each member's first hand-outs from a publisher
@@ -115,7 +126,7 @@ pub fn message_law()
         IsNewServer setup first → (run : HappensAll first events said last) → SendsWhatWasAccepted first events said last run }
 {}
 
-/// **No packet is too long to be written**, along every run (section 2.1.4): each packet that is said has at most 65,558 bytes in all (`short`), and so a
+/// **No packet is too long to be written**, along every run (section 2.1.4): each packet that is said has at most 65,556 bytes in all (`short`), and so a
 /// Remaining Length that can be said: `mqtt_wire`'s `encode` refuses none as too large (`writable`). For a message is handed on as it came in a PUBLISH
 /// that was read, which has at most 65,536 bytes. The runs are those in which no allocation failed.
 pub fn size_law()
@@ -186,4 +197,134 @@ pub fn one_run_law()
     ensures all { (setup : Setup) (events : List TimedEvent) (said said' : List StepOutput) (first first' last last' : ServerState) →
         IsNewServer setup first → IsNewServer setup first' →
         HappensAll first events said last → HappensAll first' events said' last' → (said ≡ said') × AreAlike last last' }
+{}
+
+/// **Each step answers what came in it**, along every run: there is one list of steps, each with what came, what was sent, and how far its connection had come and
+/// what the connections shared, before it and after it.
+///
+/// - What is said in an event is what its steps sent, in their order: replies of every kind, what is handed out, and nothing at the end of the input.
+/// - Each is a step of the step law, made at the moment of the server's clock in its event: its packets are the answer to what came.
+/// - They follow one another: each begins with what the connections shared after the one before it, the first of an event with what they shared before the event (of
+///   a close once the groups are closed), and the last leaves what they share after it. And each step of a connection begins where the last one left that connection,
+///   the first of one that was opened where it waits for its CONNECT; and what its last step leaves is what the connection has after the event, or it has ended. One that is
+///   not open takes none.
+/// - They answer what comes in their event: a client's stream is read packet by packet, each answered by a step; and a Tick, the end of the input and the close by one.
+///
+/// The runs are those in which no allocation failed.
+pub fn answers_law()
+    ensures { (setup : Setup) (events : List TimedEvent) (said : List StepOutput) (first last : ServerState) →
+        IsNewServer setup first → (run : HappensAll first events said last) →
+        (steps : List TakenStep) × AllAreTaken first events said last run steps }
+{}
+
+/// **No connection vanishes**, along every run in which no allocation failed (`kept`): one that is open before an event is open after it, or the last step that it takes in the
+/// event ends it; and one that its last step in an event ends is open no more. One that an event opens is open after it, whether it was before or not; and no other comes to be
+/// open. What is told to a connection that is ended is in its step (`answers_law`): DISCONNECT 8B at the close, 8E where another connection takes its session over, nothing at
+/// the end of its input.
+/// And an event of one connection leaves each other as it is, whether an allocation failed in it or not (`others`).
+pub fn connections_law()
+    ensures kept { (setup : Setup) (events : List TimedEvent) (said : List StepOutput) (first last : ServerState) →
+        IsNewServer setup first → (run : HappensAll first events said last) →
+        (steps : List TakenStep) (taken : AllAreTaken first events said last run steps) → AllKeepConnections first events said last run steps taken }
+    ensures others { (moment : ℕ) (event : ServerEvent) (said : List StepOutput) (result : Result (Unit {0}) NoMemory) (old new : ServerState) (connection : ℕ) →
+        Happens old moment event said result new → IsOfAnother event connection → client_at new.clients connection ≡ client_at old.clients connection }
+{}
+
+/// **A PUBACK says which groups accepted the message** (section 3.4.2.1), along every run: a step in which a PUBLISH of QoS 1 is acknowledged sends one PUBACK, of its
+/// Packet Identifier: with Reason Code 00 exactly where a filter matches the topic and each group whose filter does accepted one message of this connection in this step, as
+/// the groups' events tell; with 10 exactly where none matches; and with 97 exactly where one that matches did not. No group whose filter does not match accepts anything; and
+/// in any other step no group accepts anything, and no PUBACK is sent. Each PUBLISH of QoS 1 after whose step the connection goes on is acknowledged in that step. So what is
+/// acknowledged with 00 was accepted before that, and whatever is accepted is acknowledged at once. The events tell through whose port a group accepted a message; which
+/// message it was, `message_law` says.
+/// The runs are those in which no allocation failed.
+pub fn acceptance_law()
+    ensures { (setup : Setup) (events : List TimedEvent) (said : List StepOutput) (first last : ServerState) →
+        IsNewServer setup first → (run : HappensAll first events said last) →
+        (steps : List TakenStep) → AllAreTaken first events said last run steps → AllByRecursion AcknowledgesWhatIsAccepted steps }
+{}
+
+/// **A step leaves nothing to its client that could go**, along every run (sections 4.4, 4.6 and 4.9): after each step that leaves its client with its session, no message of an
+/// earlier connection waits to be sent again while the quota has room; and where this client is a member whose window has room for another message, its group has none for it,
+/// neither one that was given back nor one that is queued; or the last 131,072 messages that the member's place was handed were discarded, as the group's last events tell. It
+/// speaks of the client whose step it is: what another client's step queues waits for the member's own next step.
+/// The runs are those in which no allocation failed.
+pub fn nothing_waits_law()
+    ensures { (setup : Setup) (events : List TimedEvent) (said : List StepOutput) (first last : ServerState) →
+        IsNewServer setup first → (run : HappensAll first events said last) →
+        (steps : List TakenStep) → AllAreTaken first events said last run steps → AllByRecursion LeavesNothing steps }
+{}
+
+/// **Who leaves its group is handed nothing from then on**, along every run, between any two steps, also inside one piece of a client's stream (sections 3.8 to 3.11; profile):
+/// in a step in which an UNSUBSCRIBE is answered by an UNSUBACK with Reason Code 00, and in each later step of the same connection (`connection`), or of the same session, over
+/// however many connections (`session`), until a SUBSCRIBE is answered by a SUBACK with 01, no group hands out a message, for the first time or again, and no PUBLISH is sent
+/// with DUP 0.
+/// The runs are those in which no allocation failed.
+pub fn leaving_law()
+    ensures connection { (setup : Setup) (events : List TimedEvent) (said : List StepOutput) (first last : ServerState) →
+        IsNewServer setup first → (run : HappensAll first events said last) →
+        (steps : List TakenStep) → AllAreTaken first events said last run steps → (connection : ℕ) → HandsNothingToWhoLeft (steps_of connection steps) }
+    ensures session { (setup : Setup) (events : List TimedEvent) (said : List StepOutput) (first last : ServerState) →
+        IsNewServer setup first → (run : HappensAll first events said last) →
+        (steps : List TakenStep) → AllAreTaken first events said last run steps → HandsNothingToSessionsThatLeft steps }
+{}
+
+/// **No client is sent a packet that is longer than it takes**, along every run (section 3.1.2.11.4): no packet of a step has more bytes in all than the Maximum Packet
+/// Size of its connection's client, where that has named one; so it is with each message, sent for the first time or again, and with each reply, the CONNACK too.
+///
+/// - The Maximum Packet Size is that of the terms that the connection has, or waits with, or of the CONNECT that comes in the step (`each`).
+/// - It is that of the CONNECT that came first on the connection, which keeps it in its terms until it ends: so no packet of the connection is longer, from that
+///   CONNECT on (`connect`).
+///
+/// The runs are those in which no allocation failed.
+pub fn packet_size_law()
+    ensures each { (setup : Setup) (events : List TimedEvent) (said : List StepOutput) (first last : ServerState) →
+        IsNewServer setup first → (run : HappensAll first events said last) →
+        (steps : List TakenStep) → AllAreTaken first events said last run steps → AllByRecursion SendsWhatFits steps }
+    ensures connect { (setup : Setup) (events : List TimedEvent) (said : List StepOutput) (first last : ServerState) →
+        IsNewServer setup first → (run : HappensAll first events said last) →
+        (steps : List TakenStep) → AllAreTaken first events said last run steps → (connection : ℕ) → FitTheirConnects None (steps_of connection steps) }
+{}
+
+/// **The quota is that of the CONNECT that came** (sections 3.1.2.11.3 and 4.9), along every run: after each step, of the PUBLISH packets that were sent on a connection no more
+/// are unacknowledged than the Receive Maximum that its CONNECT named, or 65,535 where it named none; nor than the limit of the server's setup, nor than 256 (profile).
+/// The CONNECT is the one that came first on the connection, and what it asked for are the terms that the connection has, and waits with, until it ends: its Receive
+/// Maximum, or the server's limit where that is less, its Session Expiry Interval, its Keep Alive and its Maximum Packet Size.
+/// The runs are those in which no allocation failed.
+pub fn receive_maximum_law()
+    ensures { (setup : Setup) (events : List TimedEvent) (said : List StepOutput) (first last : ServerState) →
+        IsNewServer setup first → (run : HappensAll first events said last) →
+        (steps : List TakenStep) → AllAreTaken first events said last run steps →
+        (connection : ℕ) → KeepToTheirConnects setup.max_inflight None (steps_of connection steps) }
+{}
+
+/// **What is discarded had expired then, or is too long for its client; and what goes out for the first time is neither** (sections 3.1.2.11.4 and 3.3.2.3.3), along every run. The
+/// messages that the groups hand out in a step, first and again, in their order, each the one that is in front of those that wait in its group then:
+///
+/// - one is discarded exactly where its Message Expiry Interval has passed at the moment of the step, or its PUBLISH is longer than the Maximum Packet Size of the client that the
+///   connection has after the step; the others go out with DUP 0 in the step, each in a PUBLISH of its own, in their order, with their topics, properties and payloads, and nothing else
+///   goes out so;
+/// - the events that each group has gained tell these hand-outs, and no other, by First and Again, and those discards, and no other: each Discard is of the same job, by the same
+///   member, directly after the First or the Again that handed it out. What else happened in the group in the step came before.
+///
+/// It speaks of each message as it waits in its group: where it waited before the step, or is that of the PUBLISH that came in it, or was given back in it. That it is the one that
+/// was accepted under its stamp `message_law` says of what is sent alone.
+/// The runs are those in which no allocation failed.
+pub fn discard_law()
+    ensures { (setup : Setup) (events : List TimedEvent) (said : List StepOutput) (first last : ServerState) →
+        IsNewServer setup first → (run : HappensAll first events said last) →
+        (steps : List TakenStep) → AllAreTaken first events said last run steps → AllByRecursion DiscardsExpiredOrTooLong steps }
+{}
+
+/// **The whole stream of a connection is read packet by packet** (sections 2.1 and 4.13), along every run: before each event and after the last, the pieces that came on a
+/// connection since it was opened, one after the other, are the packets that its steps since then were stepped with, in their order, and then what is left.
+///
+/// - What is left is what an open connection has unread: nothing whole and no fault stands in front of it, unless the connection waits for a session.
+/// - A connection that has ended was ended by a packet, or by the fault that stands in front of what is left, or otherwise; then nothing more of its stream is read.
+/// - A Tick, the end of the input and the close are stepped too, and read nothing. Where the connection is opened again, its stream begins anew.
+///
+/// The steps are those of `answers_law`. The runs are those in which no allocation failed.
+pub fn stream_law()
+    ensures { (setup : Setup) (events : List TimedEvent) (said : List StepOutput) (first last : ServerState) →
+        IsNewServer setup first → (run : HappensAll first events said last) →
+        (steps : List TakenStep) (taken : AllAreTaken first events said last run steps) → (connection : ℕ) → ReadsWholeStream connection [] [] first events said last run steps taken }
 {}

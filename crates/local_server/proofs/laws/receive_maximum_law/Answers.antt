@@ -1,0 +1,6 @@
+-- The quota of each connection is that of its CONNECT.
+use Rattle.local_server.proofs.ReceiveMaximums.{all_keep}
+use Rattle.local_server.proofs.laws.receive_maximum_law.Goals as goal
+
+pub returns : goal.returns
+returns c setup events said first last new run steps taken connection = all_keep setup events said first last new run steps taken connection
