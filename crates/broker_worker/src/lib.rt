@@ -5,8 +5,10 @@
 //! of jobs that came or came back, and a call tells of a session that was asked for or is free. Its [`Mailboxes`] has all workers.
 #![tactic(auto)]
 
+mod handing_out;
 mod marks;
 mod offering;
+mod planning;
 mod rounds;
 mod sharing;
 mod telling;

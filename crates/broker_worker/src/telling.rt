@@ -49,8 +49,8 @@ impl<'a, 'g, B: Broker, N: HistoryName, T: Transport + Drop, Q: Poller<T> + Drop
         }
     }
 
-    /// For how many milliseconds the next turn may wait: not at all where a connection can go on, or messages were discarded in the place of which members may be handed
-    /// others. The worker is idle at the bells of the groups of which it has members that would be handed a job.
+    /// For how many milliseconds the next turn may wait: not at all where a connection can go on, or where members discarded messages and may be handed others. The
+    /// worker is idle at the bells of the groups of which it has members that would be handed a job.
     pub(crate) fn next_wait(&mut self) -> u64
         requires in_time { IsInTime self.old.connections.sweeps }
         requires told { wakes_of self.old.connections ≡ no_wakes }
