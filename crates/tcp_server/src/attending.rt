@@ -54,6 +54,7 @@ pub(crate) fn attend<
 {
     let ends = AtomicBool::new(false);
     let mut watching = Watching {
+        rt,
         stopper,
         ends: &ends,
         is_read: false,

@@ -4,22 +4,30 @@ ghost use Rattle.std.specs.Io.KnownBytes.{IsAtEnd};
 
 use broker_groups::Broker;
 use std::io::{ErrorKind, Read};
+use std::rt::Clock as SystemClock;
 use std::sync::atomic::{AtomicBool, Ordering};
+use std::thread;
+use std::time::Duration;
 use worker_pool::{Closer, Watch};
 
 /// How many bytes of the input a read asks for; what they are does not count.
 const INPUT_SIZE: usize = 4_096;
 
-/// Reads the input to its end, and closes the broker then.
+/// How many milliseconds after the end of the input the broker closes. A worker goes on with each of its connections at least every 50 milliseconds, so what
+/// clients had acknowledged by the end of the input is read before the close as a rule, and counts as acknowledged.
+const CLOSE_DELAY: u64 = 100;
+
+/// Reads the input to its end, and closes the broker soon after that.
 #[derive(Drop)]
-pub(crate) struct Watching<'a, B: Broker> {
+pub(crate) struct Watching<'a, B: Broker, R> {
+    pub(crate) rt: &'a R,
     pub(crate) stopper: Closer<'a, B>,
     pub(crate) ends: &'a AtomicBool,
     /// Whether the input has ended, and did not fail.
     pub(crate) is_read: bool,
 }
 
-impl<'a, B: Broker, I: Read> Watch<I> for Watching<'a, B> {
+impl<'a, B: Broker, R: SystemClock, I: Read> Watch<I> for Watching<'a, B, R> {
     ghost use Rattle.std.specs.Prelude.{◌≡◌, true};
     ghost use Rattle.std.specs.Io.KnownBytes.{IsAtEnd};
 
@@ -27,6 +35,7 @@ impl<'a, B: Broker, I: Read> Watch<I> for Watching<'a, B> {
 
     fn run(&mut self, input: &mut I) {
         self.is_read = read_to_end(input);
+        thread::sleep(self.rt, Duration::from_millis(CLOSE_DELAY));
         self.stopper.shut();
         self.ends.store(true, Ordering::SeqCst);
     }
