@@ -40,8 +40,8 @@ impl<'a, R: Clock> Read for Held<'a, R> {
     }
 }
 
-/// What the clients saw of the jobs of `$share/g/job`: how many were accepted, acknowledged and refused, how many sessions surely have, and how many
-/// more they may have beside those.
+/// What the clients saw of the jobs of `$share/g/job`: how many were accepted, acknowledged and refused, how many sessions surely have, how many
+/// more they may have beside those; and how many were surely discarded, and how many may have been.
 #[derive(Clone, Copy)]
 pub(crate) struct Counts {
     pub(crate) accepted: u64,
@@ -49,6 +49,8 @@ pub(crate) struct Counts {
     pub(crate) refused: u64,
     pub(crate) held: u64,
     pub(crate) open: u64,
+    pub(crate) discarded: u64,
+    pub(crate) discardable: u64,
 }
 
 /// What clients do.
@@ -148,7 +150,8 @@ fn numbers_of(alloc: Global, text: &[u8]) -> Result<Vec<u64>, Wrong> {
 }
 
 impl Night {
-    /// Whether all went well, and the report of `$share/g/job` is that of what the clients saw: each accepted job has one fate, and as many have each as can be.
+    /// Whether all went well, and the report of `$share/g/job` is that of what the clients saw: each accepted job has one fate, and as many have each as can be; so have those
+    /// that were discarded, which no client sees.
     pub(crate) fn is_as_seen(&self, alloc: Global) -> Result<(), Wrong> {
         let saw = self.saw?;
         if self.ended.is_err() {
@@ -180,7 +183,8 @@ impl Night {
         let is_as_seen = *accepted == saw.accepted
             && *acknowledged == saw.acknowledged
             && *refused == saw.refused
-            && *discarded == 0
+            && *discarded >= saw.discarded
+            && *discarded <= saw.discardable
             && *held >= saw.held
             && *held <= saw.held.saturating_add(saw.open);
         if is_as_seen {

@@ -97,10 +97,21 @@ pub(crate) fn ends(stream: &mut TcpStream) -> Result<(), Wrong> {
     }
 }
 
-/// A CONNECT of the client whose identifier is this letter and digit, with a Receive Maximum, for a session that lives for an hour after its connection, or
-/// ends with it. Whether Clean Start is set, and the Session Present of the CONNACK that is the next packet.
+/// Appends bytes.
+pub(crate) fn add(bytes: &mut Vec<u8>, more: &[u8]) -> Result<(), Wrong> {
+    bytes.extend_from_slice(more).ok().ok_or(Wrong::Memory)
+}
+
+/// Appends fewer than 128 bytes, with their length in front.
+pub(crate) fn add_counted(bytes: &mut Vec<u8>, more: &[u8]) -> Result<(), Wrong> {
+    let length = u8::try_from(more.len()).ok().ok_or(Wrong::Bytes)?;
+    add(bytes, &[length])?;
+    add(bytes, more)
+}
+
+/// Connects as is asked for. Whether the CONNACK, which is the next packet, has Session Present set.
 pub(crate) fn join(stream: &mut TcpStream, alloc: Global, asks: Asks) -> Result<bool, Wrong> {
-    send(stream, &connect(asks))?;
+    send(stream, connect(alloc, asks)?.as_slice())?;
     let body = wanted(stream, alloc, 0x20)?;
     match body.as_slice() {
         [present, 0, ..] => Ok(*present == 1),
@@ -111,26 +122,36 @@ pub(crate) fn join(stream: &mut TcpStream, alloc: Global, asks: Asks) -> Result<
 /// What a CONNECT asks for.
 #[derive(Clone, Copy)]
 pub(crate) struct Asks {
+    /// The Client Identifier: a letter and a digit.
     pub(crate) name: [u8; 2],
+    /// Clean Start.
     pub(crate) clean: bool,
+    /// Whether the session lives for an hour after its connection; else it ends with that.
     pub(crate) lives: bool,
     pub(crate) receive_maximum: u8,
+    pub(crate) maximum_packet_size: Option<u8>,
 }
 
-/// Its bytes.
-pub(crate) fn connect(asks: Asks) -> [u8; 25] {
-    let mut bytes =
-        *b"\x10\x17\x00\x04MQTT\x05\x00\x00\x3C\x08\x11\x00\x00\x00\x00\x21\x00\x01\x00\x02w1";
-    bytes[9] = if asks.clean { 2 } else { 0 };
-    if asks.lives {
-        bytes[16] = 0x0E;
-        bytes[17] = 0x10;
+/// The bytes of that CONNECT.
+pub(crate) fn connect(alloc: Global, asks: Asks) -> Result<Vec<u8>, Wrong> {
+    let expiry: u32 = if asks.lives { 3_600 } else { 0 };
+    let mut properties = Vec::new(alloc);
+    add(&mut properties, &[0x11])?;
+    add(&mut properties, &expiry.to_be_bytes())?;
+    add(&mut properties, &[0x21, 0, asks.receive_maximum.max(1)])?;
+    if let Some(maximum) = asks.maximum_packet_size {
+        add(&mut properties, &[0x27, 0, 0, 0, maximum])?;
     }
-    bytes[20] = asks.receive_maximum.max(1);
-    let [letter, digit] = asks.name;
-    bytes[23] = letter;
-    bytes[24] = digit;
-    bytes
+    let mut body = Vec::new(alloc);
+    add(&mut body, b"\x00\x04MQTT\x05")?;
+    add(&mut body, &[if asks.clean { 2 } else { 0 }, 0, 0x3C])?;
+    add_counted(&mut body, properties.as_slice())?;
+    add(&mut body, &[0])?;
+    add_counted(&mut body, &asks.name)?;
+    let mut bytes = Vec::new(alloc);
+    add(&mut bytes, &[0x10])?;
+    add_counted(&mut bytes, body.as_slice())?;
+    Ok(bytes)
 }
 
 /// A PUBLISH to `job` of this packet identifier and payload.
@@ -147,6 +168,13 @@ pub(crate) fn publish(identifier: u16, payload: [u8; 2]) -> [u8; 12] {
 
 /// A SUBSCRIBE to `$share/g/job`.
 pub(crate) const SUBSCRIBE: [u8; 20] = *b"\x82\x12\x00\x01\x00\x00\x0C$share/g/job\x01";
+
+/// The same under this Subscription Identifier, which is below 128 and not 0.
+pub(crate) fn subscribe_under(subscription: u8) -> [u8; 22] {
+    let mut bytes = *b"\x82\x14\x00\x01\x02\x0B\x01\x00\x0C$share/g/job\x01";
+    bytes[6] = subscription;
+    bytes
+}
 
 pub(crate) const PINGREQ: [u8; 2] = *b"\xC0\x00";
 

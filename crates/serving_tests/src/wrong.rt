@@ -24,6 +24,8 @@ pub(crate) enum Wrong {
     Told(u8),
     /// Bytes that are none of those that are to come, or no job of this run.
     Bytes,
+    /// A job without what it was published with, that has expired, is too long for its member, or has another Subscription Identifier.
+    Delivery,
     /// A job that may not come: it was not accepted, it was settled, or another session has it.
     Job,
     /// A fresh job while others wait to be sent again, or under an identifier that is in use.

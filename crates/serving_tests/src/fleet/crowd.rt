@@ -28,13 +28,15 @@ const ROUNDS: u32 = 100;
 struct Crowd;
 
 /// A CONNECT of a slow client.
-fn slow_connect(number: u8) -> [u8; 25] {
-    connect(Asks {
+fn slow_connect(alloc: Global, number: u8) -> Result<Vec<u8>, Wrong> {
+    let asks = Asks {
         name: [b's', b'0'.saturating_add(number)],
         clean: true,
         lives: false,
         receive_maximum: 1,
-    })
+        maximum_packet_size: None,
+    };
+    connect(alloc, asks)
 }
 
 /// Connects those that send the beginning of a CONNECT.
@@ -46,10 +48,8 @@ fn begin_slowly<R: Net<Listener = TcpListener, Stream = TcpStream> + Clock>(
     let mut streams = Vec::new(alloc);
     for number in 0..count {
         let mut stream = open(rt, PORT)?;
-        send(
-            &mut stream,
-            slow_connect(number).get(..9).ok_or(Wrong::Place)?,
-        )?;
+        let bytes = slow_connect(alloc, number)?;
+        send(&mut stream, bytes.get(..9).ok_or(Wrong::Place)?)?;
         streams.push(stream).ok().ok_or(Wrong::Memory)?;
     }
     Ok(streams)
@@ -59,7 +59,8 @@ fn begin_slowly<R: Net<Listener = TcpListener, Stream = TcpStream> + Clock>(
 fn end_slowly(streams: &mut Vec<TcpStream>, alloc: Global) -> Result<(), Wrong> {
     let mut number = 0u8;
     for stream in streams.iter_mut() {
-        for byte in slow_connect(number).get(9..).ok_or(Wrong::Place)? {
+        let bytes = slow_connect(alloc, number)?;
+        for byte in bytes.get(9..).ok_or(Wrong::Place)? {
             send(stream, &[*byte])?;
         }
         let body = wanted(stream, alloc, 0x20)?;

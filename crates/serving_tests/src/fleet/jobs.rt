@@ -1,5 +1,6 @@
 //! The jobs of a run, and what became of each as its clients saw it.
 use crate::day::Counts;
+use crate::fleet::kind::Kind;
 use crate::wrong::Wrong;
 use std::alloc::Global;
 
@@ -48,6 +49,12 @@ fn place_of(payload: [u8; 2]) -> usize {
         .wrapping_add(usize::from(number))
 }
 
+/// The payload of the job that stands there.
+fn payload_at(place: usize) -> [u8; 2] {
+    let [.., publisher, number] = place.to_be_bytes();
+    [publisher, number]
+}
+
 impl Jobs {
     /// None published yet.
     pub(crate) fn new(alloc: Global) -> Result<Jobs, Wrong> {
@@ -65,9 +72,14 @@ impl Jobs {
         })
     }
 
+    /// How many jobs were settled.
+    pub(crate) fn settled_so_far(&self) -> u64 {
+        self.acknowledged.saturating_add(self.refused)
+    }
+
     /// Whether each job that was accepted was settled.
     pub(crate) fn are_settled(&self) -> bool {
-        self.acknowledged.saturating_add(self.refused) == self.accepted
+        self.settled_so_far() == self.accepted
     }
 
     /// What the report has to say where sessions surely have so many jobs.
@@ -78,7 +90,21 @@ impl Jobs {
             refused: self.refused,
             held,
             open: self.hidden.saturating_add(self.loose),
+            discarded: 0,
+            discardable: self.discardable(),
         }
+    }
+
+    /// How many jobs may have been discarded: they have expired or are long, were accepted, and no session has them.
+    fn discardable(&self) -> u64 {
+        let mut count = 0u64;
+        for (place, seen) in self.seen.iter().enumerate() {
+            let is_free = *seen == Seen::Accepted || *seen == Seen::Back;
+            if is_free && Kind::of(payload_at(place)).is_discardable() {
+                count = count.saturating_add(1);
+            }
+        }
+        count
     }
 
     /// A PUBACK came to the publisher; a job may have come to a member before it.

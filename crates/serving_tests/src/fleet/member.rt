@@ -1,8 +1,10 @@
 //! A client that is a member of the share, over its connections.
 use crate::fleet::jobs::{Jobs, PUBLISHERS};
+use crate::fleet::kind::{Delivery, SMALL};
 use crate::fleet::rule::Rule;
 use crate::link::{
-    Asks, DISCONNECT, PINGREQ, Packet, SUBSCRIBE, connect, ends, next, send, wanted,
+    Asks, DISCONNECT, PINGREQ, Packet, SUBSCRIBE, connect, ends, next, send, subscribe_under,
+    wanted,
 };
 use crate::wrong::Wrong;
 use std::alloc::Global;
@@ -53,6 +55,24 @@ impl Member {
         })
     }
 
+    /// Its Maximum Packet Size: every third member names one, and takes no long jobs.
+    fn maximum_packet_size(&self) -> Option<u8> {
+        if self.number % 3 == 1 {
+            Some(SMALL)
+        } else {
+            None
+        }
+    }
+
+    /// The Subscription Identifier under which it subscribes, as every second member does.
+    fn subscription(&self) -> Option<u8> {
+        if self.number % 2 == 1 {
+            Some(self.number)
+        } else {
+            None
+        }
+    }
+
     /// Whether it is connected.
     pub(crate) fn is_there(&self) -> bool {
         self.stream.is_some()
@@ -88,8 +108,9 @@ impl Member {
             clean: rule.is_one_in(3),
             lives: rule.is_one_in(2),
             receive_maximum: u8::try_from(rule.below(7)).unwrap_or(6).saturating_add(1),
+            maximum_packet_size: self.maximum_packet_size(),
         };
-        send(&mut stream, &connect(asks))?;
+        send(&mut stream, connect(alloc, asks)?.as_slice())?;
         if self.is_there() {
             self.read_to_end(alloc, jobs, Ending::TakenOver)?;
         }
@@ -108,7 +129,10 @@ impl Member {
         }
         if !present {
             self.end_session(jobs)?;
-            send(&mut stream, &SUBSCRIBE)?;
+            match self.subscription() {
+                Some(subscription) => send(&mut stream, &subscribe_under(subscription))?,
+                None => send(&mut stream, &SUBSCRIBE)?,
+            }
             let body = wanted(&mut stream, alloc, 0x90)?;
             if body.as_slice() != b"\x00\x01\x00\x01".as_slice() {
                 return Err(Wrong::Suback);
@@ -120,15 +144,15 @@ impl Member {
 
     /// Takes a packet that came: a job.
     fn hear(&mut self, packet: &Packet, jobs: &mut Jobs) -> Result<(), Wrong> {
-        let [0, 3, b'j', b'o', b'b', high, low, 0, publisher, number] = packet.body.as_slice()
-        else {
-            return Err(Wrong::Bytes);
-        };
-        let identifier = u16::from_be_bytes([*high, *low]);
-        let payload = [*publisher, *number];
+        let came = Delivery::read(packet.body.as_slice())?;
+        if came.subscription != self.subscription()
+            || !came.is_due(self.maximum_packet_size().is_none())
+        {
+            return Err(Wrong::Delivery);
+        }
         match packet.first {
-            0x32 => self.hear_fresh(identifier, payload, jobs)?,
-            0x3A => self.hear_again(identifier, payload, jobs)?,
+            0x32 => self.hear_fresh(came.identifier, came.payload, jobs)?,
+            0x3A => self.hear_again(came.identifier, came.payload, jobs)?,
             first => return Err(Wrong::Packet(first)),
         }
         let sent = self.held.iter().filter(|held| held.sent).count();

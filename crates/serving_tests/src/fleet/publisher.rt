@@ -1,5 +1,6 @@
 //! A client that publishes jobs, and reads all answers.
 use crate::fleet::jobs::Jobs;
+use crate::fleet::kind::publish_job;
 use crate::fleet::rule::Rule;
 use crate::link::{Asks, join, publish, send, wanted};
 use crate::wrong::Wrong;
@@ -26,6 +27,7 @@ impl Publisher {
             clean: true,
             lives: false,
             receive_maximum: 9,
+            maximum_packet_size: None,
         };
         join(&mut stream, alloc, asks)?;
         Ok(Publisher {
@@ -56,10 +58,8 @@ impl Publisher {
             }
             self.published = self.published.saturating_add(1);
             let identifier = u16::from(self.published);
-            send(
-                &mut self.stream,
-                &publish(identifier, [self.number, self.published]),
-            )?;
+            let bytes = publish_job(alloc, identifier, [self.number, self.published])?;
+            send(&mut self.stream, bytes.as_slice())?;
         }
         for number in from..self.published {
             let body = wanted(&mut self.stream, alloc, 0x40)?;

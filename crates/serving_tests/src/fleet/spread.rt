@@ -41,6 +41,7 @@ fn come(stream: &mut TcpStream, alloc: Global, name: [u8; 2]) -> Result<(), Wron
         clean: true,
         lives: true,
         receive_maximum: 255,
+        maximum_packet_size: None,
     };
     let _present = join(stream, alloc, asks)?;
     Ok(())
@@ -146,6 +147,8 @@ impl Day for Spread {
             refused: 0,
             held: u64::from(JOBS),
             open: 0,
+            discarded: 0,
+            discardable: 0,
         })
     }
 }

@@ -25,6 +25,8 @@ fn counts_of(accepted: u64, acknowledged: u64, held: u64) -> Counts {
         refused: 0,
         held,
         open: 0,
+        discarded: 0,
+        discardable: 0,
     }
 }
 
