@@ -1,5 +1,5 @@
 -- Stamps, the jobs that they name, and envelopes as contracts see them.
-use Rattle.std.specs.Prelude.{ℕ, Option, None}
+use Rattle.std.specs.Prelude.{ℕ, nat_lt, if◌then◌else◌, Option, None, Some}
 use Rattle.dispatch_core.specs.declared.event.Job.{Job}
 use Rattle.group_jobs.specs.declared.stamp.Stamp.{Stamp}
 use Rattle.group_jobs.specs.declared.message.Message.{Message}
@@ -11,6 +11,10 @@ job_of stamp = record { port = stamp.port; number = stamp.number }
 -- a job of a group
 abbrev pub stamp_of : ℕ → Job → Stamp
 stamp_of group job = record { group = group; port = job.port; number = job.number }
+
+-- the Subscription Identifier of that number: 0 is the number of none
+abbrev pub identifier_of : ℕ → Option ℕ
+identifier_of number = if nat_lt 0 number then Some number else None
 
 -- an envelope: a message that was handed out, the place that holds it, and the Subscription Identifier under which it is sent (3.3.2.3.8)
 pub record Held : Type 0 where

@@ -1,6 +1,6 @@
 //! Envelopes: messages in a member's hands.
-ghost use Rattle.std.specs.Prelude.{◌≡◌};
-ghost use Rattle.group_jobs.specs.Stamps.{envelope_of, under};
+ghost use Rattle.std.specs.Prelude.{◌≡◌, ◌<◌, ◌^◌};
+ghost use Rattle.group_jobs.specs.Stamps.{envelope_of, under, identifier_of};
 
 use crate::shared_message::SharedMessage;
 use crate::stamp::Stamp;
@@ -16,16 +16,20 @@ use std::marker::Model;
 pub struct Envelope {
     stamp: Stamp,
     place: u8,
+    // The number of the Subscription Identifier, or 0 where there is none. An envelope is moved some ten times on its way, and is no bigger for it.
+    subscription: u32,
     message: SharedMessage,
-    subscription: Option<SubscriptionIdentifier>,
 }
 
 impl Model for Envelope {
-    ghost use Rattle.group_jobs.specs.Stamps.{Held};
+    ghost use Rattle.std.specs.Prelude.{◌<◌, ◌^◌};
+    ghost use Rattle.group_jobs.specs.Stamps.{Held, identifier_of};
 
     ghost Value = { Held };
 
-    ghost view = { λ e. record { stamp = e.stamp; place = e.place; message = e.message; subscription = e.subscription } };
+    ghost view = { λ e. record { stamp = e.stamp; place = e.place; message = e.message; subscription = identifier_of e.subscription } };
+
+    ghost invariant = { λ e. e.subscription < 2 ^ 28 };
 }
 
 impl Envelope {
@@ -37,8 +41,8 @@ impl Envelope {
         Envelope {
             stamp,
             place,
+            subscription: 0,
             message,
-            subscription: None,
         }
     }
 
@@ -49,14 +53,14 @@ impl Envelope {
         let Envelope {
             stamp,
             place,
-            message,
             subscription: _,
+            message,
         } = self;
         Envelope {
             stamp,
             place,
+            subscription: number_of(subscription),
             message,
-            subscription,
         }
     }
 
@@ -85,7 +89,7 @@ impl Envelope {
     pub fn subscription(&self) -> Option<SubscriptionIdentifier>
         ensures { result ≡ self.now.subscription }
     {
-        self.subscription
+        SubscriptionIdentifier::new(self.subscription)
     }
 
     /// Takes the envelope apart, for the group that it goes back to.
@@ -95,9 +99,20 @@ impl Envelope {
         let Envelope {
             stamp,
             place: _,
-            message,
             subscription: _,
+            message,
         } = self;
         (stamp, message)
+    }
+}
+
+/// The number of that Subscription Identifier, and 0, which is none's, where there is none.
+fn number_of(subscription: Option<SubscriptionIdentifier>) -> u32
+    ensures number { identifier_of result ≡ subscription }
+    ensures range { result < 2 ^ 28 }
+{
+    match subscription {
+        Some(identifier) => identifier.get(),
+        None => 0,
     }
 }
