@@ -18,6 +18,7 @@ pub(crate) fn expiry_from(now: u64, interval: Option<u32>) -> Option<Expiry>
 }
 
 /// Whether a message has expired at this moment, in milliseconds: it has waited as long as it may, or longer.
+#[inline(always)]
 pub fn is_expired(now: u64, expiry: Option<Expiry>) -> bool
     ensures { result ≡ is_expired now expiry }
 {
@@ -29,6 +30,7 @@ pub fn is_expired(now: u64, expiry: Option<Expiry>) -> bool
 
 /// The Message Expiry Interval, in seconds, with which a message goes out at this moment: what it came with less the whole seconds that it has waited,
 /// 0 where it has waited longer.
+#[inline(always)]
 pub fn interval_left(now: u64, expiry: Option<Expiry>) -> Option<u32>
     ensures { result ≡ interval_left now expiry }
 {

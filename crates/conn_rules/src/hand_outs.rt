@@ -1,11 +1,13 @@
 //! Which messages a client is not sent (sections 3.1.2.11.4 and 3.3.2.3.3).
-ghost use Rattle.std.specs.Prelude.{◌≡◌, IfOk};
-ghost use Rattle.conn_rules.specs.HandOuts.{is_too_long, is_message_too_long, is_discarded};
+ghost use Rattle.std.specs.Prelude.{◌≡◌, nat_lt, false, IfOk};
+ghost use Rattle.mqtt_wire.specs.Writing.{written_size};
+ghost use Rattle.conn_rules.specs.HandOuts.{is_message_too_long, is_discarded};
+ghost use Rattle.conn_rules.specs.Packets.{job};
 
 use crate::expiring::is_expired;
 use crate::packets::job;
 use group_jobs::Message;
-use mqtt_packet::{MaximumPacketSize, Packet, PacketIdentifier, SubscriptionIdentifier};
+use mqtt_packet::{MaximumPacketSize, PacketIdentifier, SubscriptionIdentifier};
 use mqtt_wire::encoded_size;
 use std::alloc::AllocError;
 
@@ -25,6 +27,7 @@ pub struct HandOutTerms {
 /// # Errors
 ///
 /// As of [`is_message_too_long`].
+#[inline(always)]
 pub fn is_discarded(message: &Message, terms: &HandOutTerms) -> Result<bool, AllocError>
     ensures { IfOk result (λ discarded. discarded ≡ is_discarded terms.now message.now) }
 {
@@ -39,6 +42,7 @@ pub fn is_discarded(message: &Message, terms: &HandOutTerms) -> Result<bool, All
 /// # Errors
 ///
 /// There are as many owners as can be counted of what a PUBLISH shares with its message.
+#[inline(always)]
 pub fn is_message_too_long(
     message: &Message,
     subscription: Option<SubscriptionIdentifier>,
@@ -46,21 +50,26 @@ pub fn is_message_too_long(
 ) -> Result<bool, AllocError>
     ensures { IfOk result (λ too_long. too_long ≡ is_message_too_long maximum_packet_size subscription message.now) }
 {
-    if maximum_packet_size.is_none() {
-        return Ok(false);
+    match maximum_packet_size {
+        Some(maximum) => is_longer_than(maximum, message, subscription),
+        None => Ok(false),
     }
-    let packet = job(0, false, message, subscription, first_identifier())?;
-    Ok(is_too_long(&packet, maximum_packet_size))
 }
 
-/// Whether a packet is longer than a client of this Maximum Packet Size takes.
-fn is_too_long(packet: &Packet, maximum_packet_size: Option<MaximumPacketSize>) -> bool
-    ensures { result ≡ is_too_long maximum_packet_size packet.now }
+/// Whether the PUBLISH of a message under this Subscription Identifier has more bytes than this maximum.
+///
+/// # Errors
+///
+/// As of [`is_message_too_long`].
+fn is_longer_than(
+    maximum: MaximumPacketSize,
+    message: &Message,
+    subscription: Option<SubscriptionIdentifier>,
+) -> Result<bool, AllocError>
+    ensures { IfOk result (λ longer. longer ≡ nat_lt maximum (written_size (job 0 false message.now subscription 1))) }
 {
-    match maximum_packet_size {
-        Some(maximum) => encoded_size(packet) > u64::from(maximum.get()),
-        None => false,
-    }
+    let packet = job(0, false, message, subscription, first_identifier())?;
+    Ok(encoded_size(&packet) > u64::from(maximum.get()))
 }
 
 /// The least Packet Identifier, 1.

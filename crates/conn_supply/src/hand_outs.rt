@@ -86,6 +86,7 @@ fn send_again(
 }
 
 /// Sends the oldest message that waits again, where there is one and the quota lets it, and gives its packet.
+#[inline(always)]
 fn next_again(window: &mut Window<Envelope>, now: u64) -> Result<Option<Packet>, NoMemory>
     ensures sent { IfOk result (λ sent. MatchOption sent
         (IsNextResend window.old None × (window.new ≡ window.old))
@@ -194,6 +195,7 @@ fn next_fresh<P: HoldingPlace, S: Supply<P>>(
 }
 
 /// Puts a message into the window, which has room, and gives the packet in which it goes out under these terms.
+#[inline(always)]
 fn put(
     window: &mut Window<Envelope>,
     envelope: Envelope,
@@ -213,6 +215,7 @@ fn put(
 }
 
 /// Puts a message into the window, which has room, under that Subscription Identifier, and gives its Packet Identifier.
+#[inline(always)]
 fn hold(
     window: &mut Window<Envelope>,
     envelope: Envelope,
