@@ -1,5 +1,6 @@
 pub mod Words
 pub mod Scripts
 pub mod Streams
+pub mod Pieces
 pub mod Transcripts
 pub mod Forms

@@ -1,5 +1,5 @@
 //! Pieces of streams, from the hex digits that spell them.
-ghost use Rattle.std.specs.Prelude.{◌≡◌, ◌⊎◌, Err, Ok, IfOk, IfErr};
+ghost use Rattle.std.specs.Prelude.{◌≡◌, ◌⊎◌, ◌++◌, List, ℕ, length, Err, Ok, IfOk, IfErr};
 ghost use Rattle.hex.specs.Hex.{decode_of};
 ghost use Rattle.hex.specs.declared.error.FromHexError.TheVariants.{OutOfMemory};
 
@@ -16,13 +16,26 @@ pub(crate) fn decode(buffer: &mut BytesMut, digits: &[u8]) -> Result<Bytes, From
     ensures ok { IfOk result (λ piece. decode_of digits.now ≡ Ok piece) }
     ensures err { IfErr result (λ error. (error ≡ OutOfMemory) ⊎ (decode_of digits.now ≡ Err error)) }
 {
-    let size = digits.len() / 2;
     buffer.clear();
-    buffer
-        .resize(size, 0)
-        .map_err(|_| FromHexError::OutOfMemory)?;
-    hex::decode_to_slice(digits, &mut buffer[..])?;
-    buffer
-        .freeze_to(size)
-        .map_err(|_| FromHexError::OutOfMemory)
+    let size = decode_onto(buffer, digits)?;
+    Ok(buffer.freeze_to(size)?)
+}
+
+/// Adds the bytes that hex digits of either case spell to the end of the buffer, and gives their number.
+///
+/// # Errors
+///
+/// As [`hex::decode`]. What the buffer then ends with is not said.
+#[inline(always)]
+pub(crate) fn decode_onto(buffer: &mut BytesMut, digits: &[u8]) -> Result<usize, FromHexError>
+    ensures ok { IfOk result (λ size. (piece : List ℕ) × (decode_of digits.now ≡ Ok piece) × (size ≡ length piece)
+        × (buffer.new.items ≡ buffer.old.items ++ piece)) }
+    ensures err { IfErr result (λ error. (error ≡ OutOfMemory) ⊎ (decode_of digits.now ≡ Err error)) }
+{
+    let start = buffer.len();
+    let size = digits.len() / 2;
+    buffer.reserve(size)?;
+    buffer.advance_mut(size);
+    hex::decode_to_slice(digits, &mut buffer[start..])?;
+    Ok(size)
 }

@@ -17,6 +17,7 @@ use crate::form::Form;
 use crate::script::read_script;
 use crate::stream::read_stream;
 use crate::transcript::Transcript;
+use bytes::BytesMut;
 use client_table::StepOutput;
 use conn_rules::Setup;
 use local_server::{Server, TimedEvent};
@@ -120,7 +121,7 @@ fn transcript(
     form: Form,
     setup: Setup,
     events: &[TimedEvent],
-) -> Result<Vec<u8>, RunError>
+) -> Result<BytesMut, RunError>
     ensures ok { IfOk result (λ text. IsTranscript (lines_as form) setup events.now text.items) }
     ensures err { IfErr result (λ error. error ≡ Memory) }
 {
@@ -140,7 +141,7 @@ fn transcribe(
     form: Form,
     server: &mut Server,
     events: &[TimedEvent],
-) -> Result<Vec<u8>, RunError>
+) -> Result<BytesMut, RunError>
     requires { (setup : Beginning) × IsNewServer setup server.old }
     ensures ok { IfOk result (λ text. (said : List Output) × (reports : List ℕ) × HappensAll server.old events.now said server.new
         × (text.items ≡ flat_map (lines_as form) said ++ reports) × ReportsFirst (length server.new.broker.routes) server.new.broker reports) }

@@ -6,11 +6,11 @@ ghost use Rattle.local_server.specs.Sizes.{AllWritable, IsWritable};
 ghost use Rattle.text_io.specs.declared.error.RunError.TheVariants.{Memory};
 ghost use Rattle.std.specs.Fmt.{decimal};
 ghost use Rattle.std.specs.List.{AllByRecursion, flat_map};
-ghost use Rattle.hex.specs.Hex.{encode_lower};
-ghost use Rattle.drive.specs.Transcripts.{packet_line, next_line, lines_of_output, client_line, ReportsFirst};
+ghost use Rattle.drive.specs.Transcripts.{hex_line, packet_line, next_line, lines_of_output, client_line, ReportsFirst};
 ghost use Rattle.drive.specs.Forms.{lines_as};
 
 use crate::form::Form;
+use bytes::{BufMut, BytesMut};
 use client_table::StepOutput;
 use conn_supply::Then;
 use itoa::Buffer;
@@ -25,7 +25,7 @@ use text_io::RunError;
 /// What is written of a run, as it grows. Contracts see it as its bytes.
 #[derive(Drop)]
 pub(crate) struct Transcript {
-    text: Vec<u8>,
+    text: BytesMut,
     // The bytes of the packet that is told; their room serves the next one.
     packet: Vec<u8>,
 }
@@ -44,13 +44,13 @@ impl Transcript {
         ensures { result ≡ [] }
     {
         Transcript {
-            text: Vec::new(alloc),
+            text: BytesMut::new(alloc),
             packet: Vec::new(alloc),
         }
     }
 
     /// The bytes.
-    pub(crate) fn into_text(self) -> Vec<u8>
+    pub(crate) fn into_text(self) -> BytesMut
         ensures { result.items ≡ self }
     {
         self.text
@@ -105,7 +105,7 @@ impl Transcript {
         ensures err { IfErr result (λ error. error ≡ Memory) }
     {
         self.tell_number(connection)?;
-        self.text.push(b' ')?;
+        self.text.put_u8(b' ')?;
         self.tell_bytes(packet)
     }
 
@@ -120,7 +120,8 @@ impl Transcript {
         Ok(())
     }
 
-    /// Adds the bytes of a packet.
+    /// Adds the bytes of a packet, and ends the line.
+    #[inline(always)]
     fn tell_bytes(&mut self, packet: &Packet) -> Result<(), RunError>
         requires { IsWritable packet.now }
         ensures ok { OnOk result (self.new ≡ self.old ++ client_line packet.now) }
@@ -128,9 +129,7 @@ impl Transcript {
     {
         self.packet.clear();
         write_packet(&mut self.packet, packet)?;
-        add_digits(&mut self.text, &self.packet)?;
-        self.text.push(b'\n')?;
-        Ok(())
+        add_hex_line(&mut self.text, &self.packet)
     }
 
     /// Adds a line where a connection has ended.
@@ -191,17 +190,20 @@ fn write_packet(bytes: &mut Vec<u8>, packet: &Packet) -> Result<(), RunError>
     }
 }
 
-/// Adds these bytes in lower case hex digits. Room for all of them is asked for first, so that no sum of lengths can be too great.
-fn add_digits(text: &mut Vec<u8>, bytes: &[u8]) -> Result<(), RunError>
-    ensures ok { OnOk result (text.new.items ≡ text.old.items ++ encode_lower bytes.now) }
+/// Adds a line of these bytes in lower case hex digits. Room for all of it is asked for once.
+fn add_hex_line(text: &mut BytesMut, bytes: &[u8]) -> Result<(), RunError>
+    ensures ok { OnOk result (text.new.items ≡ text.old.items ++ hex_line bytes.now) }
     ensures err { IfErr result (λ error. error ≡ Memory) }
 {
     let start = text.len();
     let digits = 2 * bytes.len();
-    text.reserve(digits)?;
-    text.resize(start + digits, 0)?;
+    text.reserve(digits + 1)?;
+    text.advance_mut(digits);
     match hex::encode_to_slice(bytes, &mut text[start..]) {
-        Ok(()) => Ok(()),
+        Ok(()) => {
+            text.extend_reserved(b"\n");
+            Ok(())
+        }
         Err(_) => unreachable!(),
     }
 }
