@@ -11,7 +11,7 @@ use Rattle.clap.specs.Values.{read_as}
 use Rattle.clap.specs.Walk.{has_long, has_short, row_text, values_or_missing, Held, Outcome, Step, Waiting, Walk, after_flag, after_step, arg_by_id, arg_by_long, arg_by_short, at_row, more_values, attached_value, bundle, bundle_met, bundle_step, done, finished, has_row, idle, long_met, long_or_other, next, nothing_held, option, option_met, option_word, plain, plain_word, positional, reacted, refused, rows_after, settled, settled_rows, short_met, short_or_plain, subcommand, subcommand_met, subcommand_or_other, trailing, used, used_by_id, value, waits, walk, walk_from, walked, walked_from, with_default, with_values, without, word_met}
 use Rattle.clap.specs.Kinds.{value_kinds, Kinds, range_kinds}
 use Rattle.clap.specs.Faults.{repeat_fault, set_fault, values_fault, bundle_fault, bundle_step_fault, flag_word_fault, flags_fault, level_fault, long_fault, option_fault, other_fault, react_fault, settle_fault, short_fault, turn_fault, use_fault, walk_fault, word_fault}
-use Rattle.clap.specs.Words.{IsSignedIn, Row, Rule, Text, first_of, new_rule, one_of}
+use Rattle.clap.specs.Words.{IsSignedIn, Row, Rule, Text, new_rule, one_of}
 use Rattle.clap.specs.Simple.{Shape, built_leaf, filled, help_rule, inherited, marked_built, with_index, with_leaf_noted}
 use Rattle.clap.specs.ValueTests.{is_signed_in}
 use Rattle.clap.specs.declared.builder.value_parser.Reading.{Reading}
@@ -21,7 +21,7 @@ use Rattle.clap.specs.declared.parser.matches.ValueSource.{ValueSource}
 use Rattle.clap.specs.declared.parser.matches.ValueSource.TheVariants.{CommandLine, DefaultValue}
 use Rattle.clap.specs.declared.error.kind.ErrorKind.TheVariants.{ArgumentConflict, InvalidValue, ValueValidation, WrongNumberOfValues}
 use Rattle.clap.proofs.ValueTestLemmas.{accepts-Accepts}
-use Rattle.arguments.specs.Options.{HaveNumber, Spells, capacity_option, group_option, max_inflight_option}
+use Rattle.arguments.specs.Options.{HasNumber, Spells, capacity_option, group_option, max_inflight_option}
 use Rattle.arguments.specs.CommandLine.{command_line, command_named}
 use Rattle.arguments.proofs.Faultless.{chosen, level_parts, neither, not_chosen, turn_parts}
 
@@ -83,12 +83,12 @@ module _ (id : Text) (most : ℕ) where
   is_its r = bytes_eq r.id id
 
   -- the row has one value, a number in range
-  abbrev HasNumber : Row → Type 0
-  HasNumber r = (text : Text) × (r.values ≡ text ∷ []) × (is_signed_in (pos 1) (pos most) text ≡ true) × (r.reading ≡ WithoutMinus)
+  abbrev HasOneNumber : Row → Type 0
+  HasOneNumber r = (text : Text) × (r.values ≡ text ∷ []) × (is_signed_in (pos 1) (pos most) text ≡ true) × (r.reading ≡ WithoutMinus)
 
   -- where the rows have the option, they have a number
   abbrev Numbered : List Row → Type 0
-  Numbered rows = IfSome (find is_its rows) HasNumber
+  Numbered rows = IfSome (find is_its rows) HasOneNumber
 
   find_end : (rows : List Row) (r : Row) → has_row id rows ≡ false → is_its r ≡ true → find is_its (rows ++ r ∷ []) ≡ Some r
   find_end [] r e is = ap (λ (b : Bool). cond b (Some r) None) is
@@ -96,13 +96,13 @@ module _ (id : Text) (most : ℕ) where
       let p = or_false (is_its x) _ e in
       ap (λ (b : Bool). cond b (Some x) (find is_its (rows ++ r ∷ []))) p.0 ∙ find_end rows r p.1 is
 
-  find_some : (rows : List Row) → has_row id rows ≡ true → Numbered rows → (r : Row) × (find is_its rows ≡ Some r) × HasNumber r
+  find_some : (rows : List Row) → has_row id rows ≡ true → Numbered rows → (r : Row) × (find is_its rows ≡ Some r) × HasOneNumber r
   find_some [] e numbered = cc
   find_some (x ∷ rows) e numbered = go (is_its x) e numbered (find_some rows)
     where
-      go : (b : Bool) → (b || has_row id rows) ≡ true → IfSome (cond b (Some x) (find is_its rows)) HasNumber
-          → (has_row id rows ≡ true → Numbered rows → (r : Row) × (find is_its rows ≡ Some r) × HasNumber r)
-          → (r : Row) × (cond b (Some x) (find is_its rows) ≡ Some r) × HasNumber r
+      go : (b : Bool) → (b || has_row id rows) ≡ true → IfSome (cond b (Some x) (find is_its rows)) HasOneNumber
+          → (has_row id rows ≡ true → Numbered rows → (r : Row) × (find is_its rows ≡ Some r) × HasOneNumber r)
+          → (r : Row) × (cond b (Some x) (find is_its rows) ≡ Some r) × HasOneNumber r
       go true e numbered others = (x, refl, numbered)
       go false e numbered others = others e numbered
 
@@ -144,20 +144,20 @@ module _ (id : Text) (most : ℕ) where
   beside : (other : Text) (how : Reading) (source : ValueSource) (values : List Text) (rows : List Row) → bytes_eq other id ≡ false
       → Numbered rows → Numbered (with_values other how source values (without other rows))
   beside other how source values rows differs numbered =
-      subst (λ (o : Option Row). IfSome o HasNumber) (sym (other_row other how source values (without other rows) differs ∙ without_other other rows differs)) numbered
+      subst (λ (o : Option Row). IfSome o HasOneNumber) (sym (other_row other how source values (without other rows) differs ∙ without_other other rows differs)) numbered
 
   more_beside : (other : Text) (how : Reading) (source : ValueSource) (values : List Text) (rows : List Row) → bytes_eq other id ≡ false
       → Numbered rows → Numbered (with_values other how source values rows)
   more_beside other how source values rows differs numbered =
-      subst (λ (o : Option Row). IfSome o HasNumber) (sym (other_row other how source values rows differs)) numbered
+      subst (λ (o : Option Row). IfSome o HasOneNumber) (sym (other_row other how source values rows differs)) numbered
 
   -- ---- one use of it
 
   abbrev Given : List Row → Type 0
-  Given rows = (r : Row) × (find is_its rows ≡ Some r) × HasNumber r
+  Given rows = (r : Row) × (find is_its rows ≡ Some r) × HasOneNumber r
 
   if_given : (rows : List Row) → Given rows → Numbered rows
-  if_given rows g = subst (λ (o : Option Row). IfSome o HasNumber) (sym g.1) g.2
+  if_given rows g = subst (λ (o : Option Row). IfSome o HasOneNumber) (sym g.1) g.2
 
   -- the first value that it gets
   first_number : (source : ValueSource) (text : Text) (rows : List Row) → bytes_eq id id ≡ true → has_row id rows ≡ false → is_signed_in (pos 1) (pos most) text ≡ true
@@ -411,27 +411,23 @@ spells most text e = go (starts_with_minus text) refl (accepts-Accepts false (Si
         let high = rw minus at passed.3 in
         ((numeral, refl), omega (arith, ints), omega (arith, ints), no_minus text minus)
 
--- the value of an option is a number in range, and is read as it is written
+-- the value of an option is a number in range
 abbrev pub HasOne : Text → ℕ → List Row → Type 0
-HasOne id most rows = ((number : ℕ) × HaveNumber id most rows number) × (one_of id rows ≡ first_of id rows)
+HasOne id most rows = (number : ℕ) × HasNumber id 1 most rows number
 
 has_one : (id : Text) (most : ℕ) (rows : List Row) → Given id most rows → HasOne id most rows
 has_one id most rows (row, here, (text, values, number, reading)) =
     let s = spells most text number in
-    let value : first_of id rows ≡ Some text = ap (option_and_then (λ (r : Row). slice_get r.values 0)) here ∙ ap (λ (vs : List Text). slice_get vs 0) values in
     let read : one_of id rows ≡ Some text = ap (option_and_then row_text) here
     ∙ ap₂ (λ (how : Reading) (vs : List Text). option_map (read_as how) (slice_get vs 0)) reading values ∙ ap (λ (t : Text). Some t) s.3 in (
-      (
-        digits_value 10 (without_leading_plus text),
-        record {
-          text = text;
-          value = value;
-          spelled = s.0;
-          from = s.1;
-          to = s.2;
-        },
-      ),
-      read ∙ sym value,
+      digits_value 10 (without_leading_plus text),
+      record {
+        text = text;
+        value = read;
+        spelled = s.0;
+        from = s.1;
+        to = s.2;
+      },
     )
 
 -- and so it is of both
@@ -444,7 +440,7 @@ has_numbers rows good =
     let first = with_number (codes "capacity") 65536 (codes "1024") refl refl rows good.0 in
     let same : find (is_its (codes "capacity") 65536) (with_both rows) ≡ find (is_its (codes "capacity") 65536) between =
     other_default (codes "capacity") 65536 (codes "max-inflight") (codes "256" ∷ []) between refl in
-    let still = subst (λ (o : Option Row). IfSome o (HasNumber (codes "max-inflight") 256))
+    let still = subst (λ (o : Option Row). IfSome o (HasOneNumber (codes "max-inflight") 256))
     (sym (other_default (codes "max-inflight") 256 (codes "capacity") (codes "1024" ∷ []) rows refl)) good.1 in (
       has_one (codes "capacity") 65536 (with_both rows) (first.0, same ∙ first.1, first.2),
       has_one (codes "max-inflight") 256 (with_both rows) (with_number (codes "max-inflight") 256 (codes "256") refl refl between still),

@@ -1,7 +1,6 @@
 -- Words ask for one thing.
 use Rattle.std.proofs.Common.{◌≡◌, ◌∙◌, ◌≤◌, ℕ, List, [], ◌∷◌, Option, Some, None, Ok, Err, ap, arith, codes, inl, inr, refl, rules, subst, sym}
-use Rattle.std.specs.Prelude.{IsSome, unwrap_or}
-use Rattle.std.specs.Str.Parse.{digits_value, without_leading_plus}
+use Rattle.std.specs.Prelude.{IsSome}
 use Rattle.std.specs.Coded.{×_prop, le_prop}
 use mathlib.Core.HLevel.{is_prop→PathP}
 use Rattle.std.specs.Net.Grammar.{IsIpv4Text}
@@ -12,7 +11,7 @@ use Rattle.clap.specs.Kinds.{Kinds}
 use Rattle.clap.specs.declared.error.kind.ErrorKind.{ErrorKind}
 use Rattle.conn_rules.specs.declared.setup.Setup.{Setup}
 use Rattle.arguments.specs.Groups.{Adds, AddsEach, RefusesOne, share_named}
-use Rattle.arguments.specs.Options.{HasNumber, HaveNumber, pairs_in}
+use Rattle.arguments.specs.Options.{HasNumber, pairs_in}
 use Rattle.arguments.specs.CommandLine.{AreReadAs, AskFor, HaveNoService, HaveRefusedPair, IsServiceBy, IsSetupBy, SpellNoRequest, command_line, word_of}
 use Rattle.arguments.specs.declared.command.Request.{Request}
 use Rattle.arguments.specs.declared.command.Request.TheVariants.{Drive, Serve, Solo}
@@ -47,22 +46,16 @@ each_or_refused (pair ∷ pairs) old new refusal (next, first, others) (inl refu
 each_or_refused (pair ∷ pairs) old new refusal (next, first, others) (inr (next', first', refused)) =
     each_or_refused pairs next new refusal others (subst (λ groups. RefusesOne groups pairs refusal) (adds_one old (share_named pair) next next' first first') refused)
 
-one_number : (id : Text) (most : ℕ) (rows : List Row) (a b : ℕ) → HaveNumber id most rows a → HaveNumber id most rows b → a ≡ b
-one_number id most rows a b h i =
-    let both : Some h.text ≡ Some i.text = sym h.value ∙ i.value in
-    let same : h.text ≡ i.text = ap (λ (o : Option Text). unwrap_or o h.text) both in
-    h.spelled.1 ∙ ap (λ (text : Text). digits_value 10 (without_leading_plus text)) same ∙ sym i.spelled.1
+one_number : (id : Text) (least most : ℕ) (rows : List Row) (a b : ℕ) → HasNumber id least most rows a → HasNumber id least most rows b → a ≡ b
+one_number id least most rows a b h i = spelled_once h.text i.text a b (same_text _ h.text i.text h.value i.value) h.spelled i.spelled
 
 one_setup : (rows : List Row) (a b : Setup) → IsSetupBy rows a → IsSetupBy rows b → a ≡ b
 one_setup rows a b h i =
     let made : ℕ → ℕ → List Share → Setup = λ capacity max_inflight groups. record { capacity = capacity; max_inflight = max_inflight; groups = groups } in
-    let capacity = one_number (codes "capacity") 65536 rows a.capacity b.capacity h.0 i.0 in
-    let max_inflight = one_number (codes "max-inflight") 256 rows a.max_inflight b.max_inflight h.1 i.1 in
+    let capacity = one_number (codes "capacity") 1 65536 rows a.capacity b.capacity h.0 i.0 in
+    let max_inflight = one_number (codes "max-inflight") 1 256 rows a.max_inflight b.max_inflight h.1 i.1 in
     let groups = each_one (pairs_in rows) [] a.groups b.groups h.2 i.2 in
     (λ i. made (capacity i) (max_inflight i) (groups i))
-
-one_number_read : (id : Text) (least most : ℕ) (rows : List Row) (a b : ℕ) → HasNumber id least most rows a → HasNumber id least most rows b → a ≡ b
-one_number_read id least most rows a b h i = spelled_once h.text i.text a b (same_text _ h.text i.text h.value i.value) h.spelled i.spelled
 
 one_address : (rows : List Row) (a b : ServeOptions) → IsServiceBy rows a → IsServiceBy rows b → a.address ≡ b.address
 one_address rows a b h i =
@@ -92,11 +85,11 @@ one_service : (rows : List Row) (a b : ServeOptions) → IsServiceBy rows a → 
 one_service rows a b h i =
     let made : ℕ → ℕ → List Share → Setup = λ capacity max_inflight groups. record { capacity = capacity; max_inflight = max_inflight; groups = groups } in
     let address = one_address rows a b h i in
-    let port = one_number_read (codes "port") 0 65535 rows a.port b.port h.port i.port in
-    let workers = one_number_read (codes "workers") 1 64 rows a.workers b.workers h.workers i.workers in
+    let port = one_number (codes "port") 0 65535 rows a.port b.port h.port i.port in
+    let workers = one_number (codes "workers") 1 64 rows a.workers b.workers h.workers i.workers in
     let until = one_until rows a b h i in
-    let capacity = one_number_read (codes "capacity") 1 65536 rows a.setup.capacity b.setup.capacity h.capacity i.capacity in
-    let max_inflight = one_number_read (codes "max-inflight") 1 256 rows a.setup.max_inflight b.setup.max_inflight h.max_inflight i.max_inflight in
+    let capacity = one_number (codes "capacity") 1 65536 rows a.setup.capacity b.setup.capacity h.capacity i.capacity in
+    let max_inflight = one_number (codes "max-inflight") 1 256 rows a.setup.max_inflight b.setup.max_inflight h.max_inflight i.max_inflight in
     let groups = each_one (pairs_in rows) [] a.setup.groups b.setup.groups h.groups i.groups in
     (λ i. record { address = address i; port = port i; workers = workers i; until = until i; setup = made (capacity i) (max_inflight i) (groups i); few = is_prop→PathP (λ j. IsFew (workers j)) (λ j. ×_prop le_prop le_prop) a.few b.few i })
 

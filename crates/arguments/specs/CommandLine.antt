@@ -57,8 +57,8 @@ pub record IsServiceBy (rows : List Row) (service : ServeOptions) : Type 0 where
   pub port : HasNumber (codes "port") 0 65535 rows service.port
   pub workers : HasNumber (codes "workers") 1 64 rows service.workers
   pub until : first_of (codes "until") rows ≡ Some (word_of service.until)
-  pub capacity : HasNumber (codes "capacity") 1 65536 rows service.setup.capacity
-  pub max_inflight : HasNumber (codes "max-inflight") 1 256 rows service.setup.max_inflight
+  pub capacity : HaveCapacity rows service.setup.capacity
+  pub max_inflight : HaveMaxInflight rows service.setup.max_inflight
   pub groups : AddsEach [] (pairs_in rows) service.setup.groups
 
 -- clap finds no fault in the words, and reads the command of that name in them, with these values of its options

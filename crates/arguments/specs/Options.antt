@@ -1,7 +1,7 @@
 -- The options of the commands, and the values that they have (profile).
 use Rattle.std.specs.Prelude.{◌≡◌, ℕ, ◌≤◌, codes, true, List, ◌∷◌, [], Some, pos, unwrap_or}
 use Rattle.std.specs.Str.Parse.{IsNumeral, digits_value, without_leading_plus}
-use Rattle.clap.specs.Words.{Row, Rule, Text, all_of, first_of, new_rule, one_of}
+use Rattle.clap.specs.Words.{Row, Rule, Text, all_of, new_rule, one_of}
 use Rattle.clap.specs.declared.builder.action.ArgAction.TheVariants.{Append}
 use Rattle.clap.specs.declared.builder.value_parser.ValueParser.TheVariants.{Signed}
 
@@ -73,22 +73,6 @@ until_option = record (new_rule (codes "until")) {
 abbrev pub Spells : Text → ℕ → Type 0
 Spells text number = IsNumeral 10 (without_leading_plus text) × (number ≡ digits_value 10 (without_leading_plus text))
 
--- the value of an option, as given or as left out, is a number from 1 to the most
-pub record HaveNumber (id : Text) (most : ℕ) (rows : List Row) (number : ℕ) : Type 0 where
-  pub text : Text
-  pub value : first_of id rows ≡ Some text
-  pub spelled : Spells text number
-  pub from : 1 ≤ number
-  pub to : number ≤ most
-
--- that of `--capacity` is one from 1 to 65536
-abbrev pub HaveCapacity : List Row → ℕ → Type 0
-HaveCapacity rows number = HaveNumber (codes "capacity") 65536 rows number
-
--- that of `--max-inflight` is one from 1 to 256
-abbrev pub HaveMaxInflight : List Row → ℕ → Type 0
-HaveMaxInflight rows number = HaveNumber (codes "max-inflight") 256 rows number
-
 -- the value of an option, as given or as left out, is this number, and lies in this range: as clap reads it, to which -0 is 0
 pub record HasNumber (id : Text) (least most : ℕ) (rows : List Row) (number : ℕ) : Type 0 where
   pub text : Text
@@ -96,6 +80,14 @@ pub record HasNumber (id : Text) (least most : ℕ) (rows : List Row) (number : 
   pub spelled : Spells text number
   pub from : least ≤ number
   pub to : number ≤ most
+
+-- that of `--capacity` is one from 1 to 65536
+abbrev pub HaveCapacity : List Row → ℕ → Type 0
+HaveCapacity = HasNumber (codes "capacity") 1 65536
+
+-- that of `--max-inflight` is one from 1 to 256
+abbrev pub HaveMaxInflight : List Row → ℕ → Type 0
+HaveMaxInflight = HasNumber (codes "max-inflight") 1 256
 
 -- the pairs NAME:FILTER that were given, in order
 abbrev pub pairs_in : List Row → List Text

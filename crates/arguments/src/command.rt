@@ -43,7 +43,7 @@ pub fn arguments(alloc: Global, words: &[String]) -> Result<Request, Error>
         let service = service_of(alloc, options)?;
         return Ok(Request::Serve(service));
     }
-    let setup = setup_of(alloc, options)?;
+    let setup = setup_of(alloc, name, options)?;
     if name == "drive" {
         Ok(Request::Drive(setup))
     } else {
@@ -51,11 +51,17 @@ pub fn arguments(alloc: Global, words: &[String]) -> Result<Request, Error>
     }
 }
 
-/// The error of a value that is refused.
-pub(crate) fn wrong(alloc: Global, text: &str) -> Result<Error, AllocError>
+/// The error of a value that is refused, with the usage of the command, which is called by these words.
+pub(crate) fn refused_value(
+    command: Command<'_>,
+    words: &str,
+    text: &str,
+) -> Result<Error, AllocError>
     ensures { IfOk result (λ error. kind_of error ≡ ErrorKind.ValueValidation) }
 {
-    command(alloc)?.error(ErrorKind::ValueValidation, text)
+    command
+        .bin_name(words)?
+        .error(ErrorKind::ValueValidation, text)
 }
 
 /// The commands and their options.
@@ -83,7 +89,7 @@ fn command<'a>(alloc: Global) -> Result<Command<'a>, AllocError>
 }
 
 /// A command with the three options of a server.
-fn command_named<'a>(
+pub(crate) fn command_named<'a>(
     alloc: Global,
     name: &'a str,
     about: &'a str,
@@ -98,7 +104,7 @@ fn command_named<'a>(
 }
 
 /// `serve` and its seven options.
-fn serve_command<'a>(alloc: Global) -> Result<Command<'a>, AllocError>
+pub(crate) fn serve_command<'a>(alloc: Global) -> Result<Command<'a>, AllocError>
     ensures { IfOk result (λ command. app_of command ≡ serve_command) }
 {
     Command::new(alloc, "serve")

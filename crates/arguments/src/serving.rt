@@ -2,18 +2,27 @@
 ghost use Rattle.std.specs.Prelude.{◌≡◌, ◌⊎◌, ℕ, codes, IfOk, IfErr, MatchOption, Some};
 ghost use Rattle.clap.specs.Words.{first_of, found_of, kind_of, rows_of};
 ghost use Rattle.clap.specs.declared.error.kind.ErrorKind.TheVariants as kinds;
-ghost use Rattle.arguments.specs.Options.{HasNumber};
+ghost use Rattle.arguments.specs.Options.{HasNumber, HaveCapacity, HaveMaxInflight};
 ghost use Rattle.arguments.specs.CommandLine.{IsServiceBy, word_of};
 ghost use Rattle.arguments.specs.declared.service.ServeOptions.{ServeOptions as AnyService};
 
-use crate::command::wrong;
+use crate::command::{refused_value, serve_command};
 use crate::groups::groups_of;
 use crate::service::{ServeOptions, ServeUntil};
 use crate::setup::{capacity_of, limit_of};
 use clap::{ArgMatches, Error};
-use conn_rules::Setup;
-use std::alloc::Global;
+use conn_rules::{MaxInflight, QueueCapacity, Setup};
+use std::alloc::{AllocError, Global};
 use std::net::Ipv4Addr;
+
+/// The numbers among the options, each in its range.
+#[derive(Clone, Copy)]
+struct Numbers {
+    port: u16,
+    workers: u8,
+    capacity: QueueCapacity,
+    max_inflight: MaxInflight,
+}
 
 /// What a broker begins with, by the options.
 pub(crate) fn service_of(alloc: Global, options: &ArgMatches) -> Result<ServeOptions, Error>
@@ -28,7 +37,7 @@ pub(crate) fn service_of(alloc: Global, options: &ArgMatches) -> Result<ServeOpt
             "an address is four numbers from 0 to 255 with dots between",
         )?);
     };
-    let Some((port, workers, capacity, packets)) = numbers(options) else {
+    let Some(numbers) = numbers_of(options) else {
         return Err(wrong(alloc, "a number is out of its range")?);
     };
     let Some(until) = until_of(options) else {
@@ -37,17 +46,24 @@ pub(crate) fn service_of(alloc: Global, options: &ArgMatches) -> Result<ServeOpt
     match groups_of(alloc, options.get_strs("group").unwrap_or(&[]))? {
         Ok(groups) => Ok(ServeOptions {
             address,
-            port: port as u16,
-            workers: workers as u8,
+            port: numbers.port,
+            workers: numbers.workers,
             until,
             setup: Setup {
-                capacity: capacity_of(capacity),
-                max_inflight: limit_of(packets),
+                capacity: numbers.capacity,
+                max_inflight: numbers.max_inflight,
                 groups,
             },
         }),
         Err(refused) => Err(wrong(alloc, refused.text.as_str())?),
     }
+}
+
+/// The error of a value that is refused.
+fn wrong(alloc: Global, text: &str) -> Result<Error, AllocError>
+    ensures { IfOk result (λ error. kind_of error ≡ kinds.ValueValidation) }
+{
+    refused_value(serve_command(alloc)?, "share_broker serve", text)
 }
 
 /// Until when it serves.
@@ -63,20 +79,25 @@ fn until_of(options: &ArgMatches) -> Option<ServeUntil>
     }
 }
 
-/// The port, how many workers, the capacity, and the limit of unacknowledged messages.
-fn numbers(options: &ArgMatches) -> Option<(u32, u32, u32, u32)>
+/// The numbers that the options have, where each is in its range.
+fn numbers_of(options: &ArgMatches) -> Option<Numbers>
     ensures { MatchOption result
         ((service : AnyService) → ¬ IsServiceBy (rows_of (found_of options.now)) service)
-        (λ numbers. HasNumber (codes "port") 0 65535 (rows_of (found_of options.now)) numbers.0
-        × HasNumber (codes "workers") 1 64 (rows_of (found_of options.now)) numbers.1
-        × HasNumber (codes "capacity") 1 65536 (rows_of (found_of options.now)) numbers.2
-        × HasNumber (codes "max-inflight") 1 256 (rows_of (found_of options.now)) numbers.3) }
+        (λ numbers. HasNumber (codes "port") 0 65535 (rows_of (found_of options.now)) numbers.port
+        × HasNumber (codes "workers") 1 64 (rows_of (found_of options.now)) numbers.workers
+        × HaveCapacity (rows_of (found_of options.now)) numbers.capacity
+        × HaveMaxInflight (rows_of (found_of options.now)) numbers.max_inflight) }
 {
     let port = number(options, "port", 0, 65_535)?;
     let workers = number(options, "workers", 1, 64)?;
-    let capacity = number(options, "capacity", 1, 65_536)?;
+    let messages = number(options, "capacity", 1, 65_536)?;
     let packets = number(options, "max-inflight", 1, 256)?;
-    Some((port, workers, capacity, packets))
+    Some(Numbers {
+        port: port as u16,
+        workers: workers as u8,
+        capacity: capacity_of(messages),
+        max_inflight: limit_of(packets),
+    })
 }
 
 /// The number in this range that an option has, as it was given or is left out.

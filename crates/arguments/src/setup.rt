@@ -1,25 +1,21 @@
 //! What a server begins with, by the options of a command.
-ghost use Rattle.std.specs.Prelude.{◌≡◌, ◌≤◌, ◌⊎◌, ℕ, codes, IfOk, IfErr, []};
-ghost use Rattle.clap.specs.Words.{first_of, found_of, kind_of, one_of, rows_of};
+ghost use Rattle.std.specs.Prelude.{◌≡◌, ◌≤◌, ◌⊎◌, ℕ, IfOk, IfErr, []};
+ghost use Rattle.clap.specs.Words.{found_of, kind_of, rows_of};
 ghost use Rattle.clap.specs.declared.error.kind.ErrorKind.TheVariants as kinds;
 ghost use Rattle.arguments.specs.Groups.{RefusesOne};
 ghost use Rattle.arguments.specs.Options.{pairs_in, HaveCapacity, HaveMaxInflight};
 ghost use Rattle.arguments.specs.CommandLine.{IsSetupBy};
 
-use crate::command::wrong;
+use crate::command::{command_named, refused_value};
 use crate::groups::groups_of;
 use clap::{ArgMatches, Error};
 use conn_rules::{MaxInflight, QueueCapacity, Setup};
-use std::alloc::Global;
+use std::alloc::{AllocError, Global};
 
-/// What a server begins with, by the options of a command.
-pub(crate) fn setup_of(alloc: Global, options: &ArgMatches) -> Result<Setup, Error>
+/// What a server begins with, by the options of the command of this name, `solo` or `drive`.
+pub(crate) fn setup_of(alloc: Global, name: &str, options: &ArgMatches) -> Result<Setup, Error>
     requires capacity { (number : ℕ) × HaveCapacity (rows_of (found_of options.now)) number }
-    requires as_written { one_of (codes "capacity") (rows_of (found_of options.now))
-        ≡ first_of (codes "capacity") (rows_of (found_of options.now)) }
     requires max_inflight { (number : ℕ) × HaveMaxInflight (rows_of (found_of options.now)) number }
-    requires max_inflight_as_written { one_of (codes "max-inflight") (rows_of (found_of options.now))
-        ≡ first_of (codes "max-inflight") (rows_of (found_of options.now)) }
     ensures ok { IfOk result (IsSetupBy (rows_of (found_of options.now))) }
     ensures err { IfErr result (λ error. (kind_of error ≡ kinds.OutOfMemory)
         ⊎ ((kind_of error ≡ kinds.ValueValidation)
@@ -33,8 +29,16 @@ pub(crate) fn setup_of(alloc: Global, options: &ArgMatches) -> Result<Setup, Err
             max_inflight: limit_of(packets),
             groups,
         }),
-        Err(refused) => Err(wrong(alloc, refused.text.as_str())?),
+        Err(refused) => Err(wrong(alloc, name, refused.text.as_str())?),
     }
+}
+
+/// The error of a value of the command of this name that is refused.
+fn wrong(alloc: Global, name: &str, text: &str) -> Result<Error, AllocError>
+    ensures { IfOk result (λ error. kind_of error ≡ kinds.ValueValidation) }
+{
+    let words = format!(in alloc; "share_broker {name}")?;
+    refused_value(command_named(alloc, name, "")?, words.as_str(), text)
 }
 
 /// The capacity of a queue for so many messages.
@@ -61,9 +65,7 @@ pub(crate) fn limit_of(packets: u32) -> MaxInflight
 
 /// The number of `--capacity`.
 fn messages(options: &ArgMatches) -> u32
-    requires number { (number : ℕ) × HaveCapacity (rows_of (found_of options.now)) number }
-    requires as_written { one_of (codes "capacity") (rows_of (found_of options.now))
-        ≡ first_of (codes "capacity") (rows_of (found_of options.now)) }
+    requires { (number : ℕ) × HaveCapacity (rows_of (found_of options.now)) number }
     ensures { HaveCapacity (rows_of (found_of options.now)) result }
 {
     options.get_one::<u32>("capacity").unwrap_or(1_024)
@@ -71,9 +73,7 @@ fn messages(options: &ArgMatches) -> u32
 
 /// The number of `--max-inflight`.
 fn packets(options: &ArgMatches) -> u32
-    requires number { (number : ℕ) × HaveMaxInflight (rows_of (found_of options.now)) number }
-    requires as_written { one_of (codes "max-inflight") (rows_of (found_of options.now))
-        ≡ first_of (codes "max-inflight") (rows_of (found_of options.now)) }
+    requires { (number : ℕ) × HaveMaxInflight (rows_of (found_of options.now)) number }
     ensures { HaveMaxInflight (rows_of (found_of options.now)) result }
 {
     options.get_one::<u32>("max-inflight").unwrap_or(256)

@@ -17,7 +17,7 @@ setup_of-requires c =
       | inl facts ↦ facts.1
       | inr is ↦ absurd (other is)
     ] in
-    record { capacity = numbers.0.0; as_written = numbers.0.1; max_inflight = numbers.1.0; max_inflight_as_written = numbers.1.1 }
+    record { capacity = numbers.0; max_inflight = numbers.1 }
 
 pub returns-in_default-clause-err : goal.returns-in_default-clause-err
 returns-in_default-clause-err c =

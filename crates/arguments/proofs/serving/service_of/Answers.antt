@@ -3,7 +3,7 @@ use Rattle.std.proofs.Common.{◌≡◌, ◌∙◌, [], codes, inr, map, refl, s
 use Rattle.std.specs.Borrow.{Bor}
 use Rattle.std.specs.Net.Grammar.{IsIpv4Text, Parses}
 use Rattle.clap.specs.Words.{Text, all_of, found_of, one_text, rows_of}
-use Rattle.arguments.specs.Options.{HasNumber, pairs_in}
+use Rattle.arguments.specs.Options.{pairs_in}
 use Rattle.arguments.specs.Groups.{AddsEach, RefusesOne}
 use Rattle.arguments.proofs.OneRequest.{each_or_refused}
 use Rattle.arguments.proofs.Read.{all_is, one_is, values_are}
@@ -25,11 +25,11 @@ returns-in-Ok-clause-ok c =
       text = read.0;
       value = one_is found (codes "address") ∙ read.1;
       address = read.2;
-      port = c.in-Some-numbers.ensures.0;
-      workers = c.in-Some-numbers.ensures.1;
+      port = c.in-Some-numbers_of.ensures.0;
+      workers = c.in-Some-numbers_of.ensures.1;
       until = c.in-Some-until_of.ensures;
-      capacity = subst (HasNumber (codes "capacity") 1 65536 (rows_of found)) (sym c.capacity_of.ensures) c.in-Some-numbers.ensures.2;
-      max_inflight = subst (HasNumber (codes "max-inflight") 1 256 (rows_of found)) (sym c.limit_of.ensures) c.in-Some-numbers.ensures.3;
+      capacity = c.in-Some-numbers_of.ensures.2;
+      max_inflight = c.in-Some-numbers_of.ensures.3;
       groups = subst (λ texts. AddsEach [] texts c.in-Ok.groups) pairs all;
     }
 

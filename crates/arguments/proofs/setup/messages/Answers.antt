@@ -8,9 +8,9 @@ use Rattle.arguments.proofs.setup.messages.Goals as goal
 pub returns : goal.returns
 returns c =
     let found = found_of c.args.options.now in
-    let number = c.requires.number.0 in
-    let asked = c.requires.number.1 in
-    let read = c.get_one.ensures.value asked.text (sym (one_is found (codes "capacity")) ∙ c.requires.as_written ∙ asked.value) in
+    let number = c.requires.0 in
+    let asked = c.requires.1 in
+    let read = c.get_one.ensures.value asked.text (sym (one_is found (codes "capacity")) ∙ asked.value) in
     let capacity : c.unwrap_or.result ≡ number = c.unwrap_or.ensures
     ∙ number_read (λ bs r. ParsesUnsigned 32 10 bs r × ExplainsUnsignedError 10 bs r × HasUnsignedDigitsIfOk bs r) asked.text number 1024 c.get_one.result read (λ u x g. g.0) asked.spelled asked.to in
     subst (HaveCapacity (rows_of found)) (sym capacity) asked

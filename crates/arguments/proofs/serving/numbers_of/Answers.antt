@@ -1,0 +1,26 @@
+-- A service would have the number that is lacking.
+use Rattle.std.proofs.Common.{subst, sym}
+use Rattle.clap.specs.Words.{found_of, rows_of}
+use Rattle.arguments.specs.Options.{HaveCapacity, HaveMaxInflight}
+use Rattle.arguments.proofs.serving.numbers_of.Goals as goal
+
+pub returns : goal.returns
+returns c =
+    let rows = rows_of (found_of c.args.options.now) in (
+      c.in_ok-port.ensures,
+      c.in_ok-workers.ensures,
+      subst (HaveCapacity rows) (sym c.capacity_of.ensures) c.in_ok-messages.ensures,
+      subst (HaveMaxInflight rows) (sym c.limit_of.ensures) c.in_ok-packets.ensures,
+    )
+
+pub returns-in_err-port : goal.returns-in_err-port
+returns-in_err-port c = rw c.from_residual.ensures (λ service by. c.in_err-port.ensures service.port by.port)
+
+pub returns-in_err-workers : goal.returns-in_err-workers
+returns-in_err-workers c = rw c.from_residual-in_err-workers.ensures (λ service by. c.in_err-workers.ensures service.workers by.workers)
+
+pub returns-in_err-messages : goal.returns-in_err-messages
+returns-in_err-messages c = rw c.from_residual-in_err-messages.ensures (λ service by. c.in_err-messages.ensures service.setup.capacity by.capacity)
+
+pub returns-in_err-packets : goal.returns-in_err-packets
+returns-in_err-packets c = rw c.from_residual-in_err-packets.ensures (λ service by. c.in_err-packets.ensures service.setup.max_inflight by.max_inflight)
