@@ -4,7 +4,7 @@ ghost use Rattle.std.specs.Prelude.{◌≡◌, IfSome};
 use crate::broker::calls::message;
 use crate::broker::ending::{Counts, abandon, all_of, count, sum_of};
 use crate::broker::opening::{Built, Day, WorkerHandle, open};
-use crate::broker::worker::{keep, supply_of};
+use crate::broker::worker::{keep, ports_of, supply_of};
 use broker_groups::{Broker, BrokerPlace, Key, Ports};
 use call_history::HistoryName;
 use conn_supply::{HoldingPlace, Supply};
@@ -13,7 +13,7 @@ use gate_word::{Drained, Gate};
 use group_queue::Nobody;
 use session_desk::All;
 use shared_desk::DeskCaller;
-use shared_supply::{SharedBroker, SupplyParts};
+use shared_supply::SharedBroker;
 use std::alloc::Global;
 use std::sync::Wait;
 use std::test::Fail;
@@ -38,13 +38,7 @@ fn work<B: Broker, N: HistoryName, R: Wait>(
     match supply_of(rt, alloc, shared_broker, handle) {
         Ok(mut supply) => {
             offer(alloc, &mut supply);
-            let SupplyParts {
-                key: _,
-                ports,
-                known: _,
-                desk: _,
-            } = supply.into_parts();
-            ports
+            ports_of(supply)
         }
         Err(ports) => ports,
     }

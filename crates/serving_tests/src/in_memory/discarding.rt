@@ -1,13 +1,11 @@
 //! Messages that are longer than their member's Maximum Packet Size, and a short one behind them.
-ghost use Rattle.std.specs.Prelude.{◌≡◌, None, IfOk};
-ghost use Rattle.transport.specs.Counting.{no_counts};
 
+use crate::in_memory::arriving::{Arriving, Client};
 use crate::in_memory::broker::{Reports, Told, serve_all};
 use crate::link::{SUBSCRIBE, publish};
 use scripted_transport::{ReadTurn, Scripted};
 use std::alloc::{AllocError, Global};
 use std::test::Fail;
-use transport::{Arrival, Source};
 
 /// How many messages are too long: more than three times what a worker hands a member in a turn.
 const LONG: u16 = 800;
@@ -27,64 +25,30 @@ const UNSUBSCRIBE: [u8; 19] = *b"\xA2\x11\x00\x02\x00\x00\x0C$share/g/job";
 /// A PUBLISH to `job` of 65 bytes, but for its payload.
 const LONG_PUBLISH: [u8; 10] = *b"\x32\x3F\x00\x03job\x00\x07\x00";
 
-/// A connection whose client leaves its group, publishes long messages and a short one, joins the group again, and says nothing more for some turns.
-fn client(alloc: Global) -> Result<Scripted, AllocError>
-    ensures { IfOk result (λ scripted. scripted.counts ≡ no_counts) }
-{
-    let mut input = CONNECT.to_vec(alloc)?;
-    input.extend_from_slice(&SUBSCRIBE)?;
-    input.extend_from_slice(&UNSUBSCRIBE)?;
-    for _ in 0..LONG {
-        input.extend_from_slice(&LONG_PUBLISH)?;
-        input.extend_from_slice(&[b'A'; 55])?;
-    }
-    input.extend_from_slice(&publish(8, *b"AA"))?;
-    input.extend_from_slice(&SUBSCRIBE)?;
-    let reads = vec![in alloc; ReadTurn::AtMost(PIECE); READS]?;
-    Scripted::new(alloc, input, reads, Vec::new(alloc), PIECE)
-}
-
-/// Where its connection comes from.
+/// Leaves its group, publishes long messages and a short one, joins the group again, and says nothing more for some turns.
 #[derive(Drop)]
-struct OneClient {
-    alloc: Global,
-    arrivals: u64,
-}
+struct LongWinded;
 
-impl Source<Scripted> for OneClient {
-    ghost tally = { λ c. record { failures = 0; arrivals = c.arrivals } };
-
-    ghost arrived = { λ c. None };
-
-    fn next(&mut self) -> Arrival<Scripted> {
-        if self.arrivals > 0 {
-            return Arrival::End;
+impl Client for LongWinded {
+    fn connect(&self, alloc: Global, _number: u8) -> Result<Scripted, AllocError> {
+        let mut input = CONNECT.to_vec(alloc)?;
+        input.extend_from_slice(&SUBSCRIBE)?;
+        input.extend_from_slice(&UNSUBSCRIBE)?;
+        for _ in 0..LONG {
+            input.extend_from_slice(&LONG_PUBLISH)?;
+            input.extend_from_slice(&[b'A'; 55])?;
         }
-        match client(self.alloc) {
-            Ok(connection) => {
-                self.arrivals = 1;
-                Arrival::Came(connection)
-            }
-            Err(_) => Arrival::End,
-        }
-    }
-
-    fn failures(&self) -> u64 {
-        0
-    }
-
-    fn arrivals(&self) -> u64 {
-        self.arrivals
+        input.extend_from_slice(&publish(8, *b"AA"))?;
+        input.extend_from_slice(&SUBSCRIBE)?;
+        let reads = vec![in alloc; ReadTurn::AtMost(PIECE); READS]?;
+        Scripted::new(alloc, input, reads, Vec::new(alloc), PIECE)
     }
 }
 
 // Long messages wait before their member joins: all are discarded, and it is sent the short one behind them, within the turns in which its stream is read. No sweep begins, as no time goes by.
 #[test]
 fn discarding(rt: HostRuntime) -> Result<(), Fail> {
-    let source = OneClient {
-        alloc: rt.alloc(),
-        arrivals: 0,
-    };
+    let source = Arriving::new(rt.alloc(), LongWinded, 1);
     let told = serve_all(&rt, rt.alloc(), 1, source);
     let well = Told {
         came: 1,

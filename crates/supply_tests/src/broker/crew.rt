@@ -6,14 +6,14 @@ ghost use Rattle.broker_groups.specs.Naming.{IsOfBroker};
 use crate::broker::ending::{Counts, end};
 use crate::broker::opening::{Built, WorkerHandle, build};
 use crate::broker::seen::Seen;
-use crate::broker::worker::{keep, supply_of};
+use crate::broker::worker::{keep, ports_of, supply_of};
 use broker_groups::{Broker, BrokerName, BrokerPlace, Opened, Ports, Witnessed};
 use call_history::HistoryName;
 use conn_supply::Supply;
 use gate_word::{Gate, GateSeat};
 use group_queue::Nobody;
 use shared_desk::OpenedDesk;
-use shared_supply::{SharedBroker, SupplyParts};
+use shared_supply::SharedBroker;
 use std::alloc::Global;
 use std::marker::Brand;
 use std::sync::Wait;
@@ -74,13 +74,10 @@ fn work<B: Broker, N: HistoryName, C: Crew, R: Wait>(
         Ok(supply) => {
             let mut supply = supply;
             let seen = crew.work(alloc, &mut supply, number);
-            let SupplyParts {
-                key: _,
-                ports,
-                known: _,
-                desk: _,
-            } = supply.into_parts();
-            OneBack { seen, ports }
+            OneBack {
+                seen,
+                ports: ports_of(supply),
+            }
         }
         Err(ports) => OneBack { seen: None, ports },
     }

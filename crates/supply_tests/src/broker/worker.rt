@@ -39,6 +39,19 @@ pub(crate) fn supply_of<'a, 'g, B: Broker, N: HistoryName, R: Wait>(
     }
 }
 
+/// The ports of a worker that has ended.
+pub(crate) fn ports_of<B: Broker, N: HistoryName, R: Wait>(
+    supply: SharedSupply<'_, '_, B, N, R>,
+) -> Ports<B> {
+    let SupplyParts {
+        key: _,
+        ports,
+        known: _,
+        desk: _,
+    } = supply.into_parts();
+    ports
+}
+
 /// A worker works; its ports come back.
 fn work<B: Broker, N: HistoryName, H: Shift, R: Wait>(
     rt: &R,
@@ -55,13 +68,7 @@ fn work<B: Broker, N: HistoryName, H: Shift, R: Wait>(
         Ok(supply) => {
             let mut supply = supply;
             shift.work(alloc, &mut supply, gate, spare);
-            let SupplyParts {
-                key: _,
-                ports,
-                known: _,
-                desk: _,
-            } = supply.into_parts();
-            ports
+            ports_of(supply)
         }
         Err(ports) => ports,
     }

@@ -7,7 +7,7 @@ ghost use Rattle.broker_groups.specs.Outs.{HasOut};
 use crate::broker::calls::{acknowledge, offer, return_one, take};
 use crate::broker::ending::{Counts, abandon};
 use crate::broker::opening::{Built, Day, WorkerHandle, open, shut};
-use crate::broker::worker::supply_of;
+use crate::broker::worker::{ports_of, supply_of};
 use crate::row::ending::{Ending, Out, end};
 use broker_groups::{Broker, BrokerPlace, Key, Ports};
 use call_history::HistoryName;
@@ -16,7 +16,7 @@ use gate_word::Gate;
 use group_jobs::Envelope;
 use group_queue::Nobody;
 use session_desk::Place;
-use shared_supply::{AskedBack, SharedBroker, SupplyParts, Wakes};
+use shared_supply::{AskedBack, SharedBroker, Wakes};
 use std::alloc::Global;
 use std::sync::Wait;
 use std::test::Fail;
@@ -111,13 +111,7 @@ fn act<B: Broker, N: HistoryName, R: Wait>(
     told.wakes = Some(supply.take_wakes());
     told.is_drained = shut(gate, spare);
     told.is_let_in = supply.begin();
-    let SupplyParts {
-        key: _,
-        ports,
-        known: _,
-        desk: _,
-    } = supply.into_parts();
-    (out, ports)
+    (out, ports_of(supply))
 }
 
 /// The row, with what it ends.
