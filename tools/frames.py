@@ -1,4 +1,4 @@
-"""MQTT 5.0 packets byte by byte, and a broker that is started and ended: what `tools/fleet`, `tools/ends` and `tools/refuse-memory` share."""
+"""MQTT 5.0 packets byte by byte, and a broker that is started and ended: what `tools/fleet`, `tools/ends`, `tools/refuse-memory`, `tools/spread` and `tools/attack` share."""
 import os
 import re
 import select
