@@ -1,7 +1,9 @@
 -- What each call of a connection makes of its worker, and what it answers.
-use Rattle.std.specs.Prelude.{◌≡◌, ◌⊎◌, ℕ, ◌<◌, ◌+◌, ◌-◌, ◌^◌, min, Bool, true, false, Option, None, Result, Ok, Err}
+use Rattle.std.specs.Prelude.{◌≡◌, ◌⊎◌, ℕ, ◌<◌, ◌+◌, ◌-◌, ◌^◌, min, Bool, true, false, List, Option, None, Result, Ok, Err}
 use Rattle.mqtt_topic.specs.Names.{Share}
 use Rattle.mqtt_topic.specs.Routes.{slot_of, routed, places_of}
+use Rattle.group_jobs.specs.declared.message.Message.{Message}
+use Rattle.group_jobs.specs.declared.stamp.Stamp.{Stamp}
 use Rattle.group_jobs.specs.Stamps.{Held}
 use Rattle.session_desk.specs.declared.session.Session.{Session}
 use Rattle.session_desk.specs.Calls.{Call}
@@ -10,9 +12,11 @@ use Rattle.call_history.specs.Callers.{CallerState}
 use Rattle.shared_desk.specs.Histories.{AddsCall}
 use Rattle.conn_supply.specs.declared.supply.BindRefusal.{BindRefusal}
 use Rattle.conn_supply.specs.declared.supply.BindRefusal.TheVariants as bind
+use Rattle.conn_supply.specs.declared.supply.OfferRefusal.{OfferRefusal}
+use Rattle.conn_supply.specs.declared.supply.OfferRefusal.TheVariants as refusal
 use Rattle.conn_supply.specs.SupplyCalls.{SupplyCall}
 use Rattle.conn_supply.specs.SupplyCalls.SupplyCall.{Attach, Withdraw, Kicked, Park, ParkAsIs, Keep, Bury, Sweep, LendPlace, TakePlace, Bind, Find, Match, Offer, MayTake, Take, TakeBack, Settle, GiveBack}
-use Rattle.group_queue.specs.Ports.{GroupId}
+use Rattle.group_queue.specs.Ports.{GroupId, PortState}
 use Rattle.group_queue.specs.Places.{PlaceState, GiveBackAnswers, TakeAnswers, TakeBackAnswers}
 use Rattle.broker_groups.specs.Answers.{in_group, Sights}
 use Rattle.broker_groups.specs.Offering.{OffersTo}
@@ -64,6 +68,11 @@ Binds old share (Err bind.NoSlot) new = HasNoSlot old share new
 Binds old share (Err bind.Memory) new = (slot_of share.text old.shares ≡ None) × (new ≡ old)
 
 module _ (group : ℕ → GroupId) (seen : Sights) where
+  -- a worker that drains refuses a message as a closed broker does, and its ports are as they were; else the message is offered to the group of this slot
+  abbrev pub OffersIn : (is_draining : Bool) → List PortState → ℕ → Message → Result Stamp OfferRefusal → List PortState → Type 0
+  OffersIn true old slot message answer new = (answer ≡ Err refusal.Shut) × (new ≡ old)
+  OffersIn false old slot message answer new = OffersTo group seen.saw_main old slot message answer new
+
   -- what each call makes, with its answer, in a broker with these groups, whose witness saw this
   abbrev pub Calls : Worker → SupplyCall PlaceState → Worker → Type 0
   Calls old (Attach request answer) new = AsksDesk (waking old (asking_back answer old.wakes)) (desk.Attach request answer) new
@@ -80,7 +89,7 @@ module _ (group : ℕ → GroupId) (seen : Sights) where
   Calls old (Find share answer) new = (answer ≡ slot_of share.text old.known.shares) × (new ≡ old)
   Calls old (Match topic slots) new = (slots ≡ places_of 0 (routed topic old.known.shares)) × (new ≡ old)
   Calls old (Offer slot connection message answer) new =
-      OffersTo group seen.saw_main old.ports slot message answer new.ports × (new ≡ waking (record old { ports = new.ports }) (one_more_if answer slot old.wakes))
+      OffersIn old.draining old.ports slot message answer new.ports × (new ≡ waking (record old { ports = new.ports }) (one_more_if answer slot old.wakes))
   Calls old (MayTake place answer) new = IsAllowed answer old.allowance × (new ≡ old)
   Calls old (Take place place' answer) new = TakeAnswers seen.saw_main place (in_group answer) place' × (new ≡ handing answer place.group old)
   Calls old (TakeBack place place' answer) new = TakeBackAnswers seen.saw_returns place (in_group answer) place' × (new ≡ handing answer place.group old)

@@ -1,5 +1,5 @@
 -- What a worker of a broker has: where it stands at the gate, what it publishes through, what it knows of the routes and of the calls of the desk, and whom it has to wake.
-use Rattle.std.specs.Prelude.{◌≡◌, ℕ, Bool, true, false, List, Option, Some, None}
+use Rattle.std.specs.Prelude.{◌≡◌, ◌||◌, ℕ, Bool, true, false, List, Option, Some, None}
 use Rattle.gate_word.specs.declared.visitor.Visitor.{Visitor}
 use Rattle.gate_word.specs.declared.visitor.Visitor.TheVariants.{Outside, Inside}
 use Rattle.gate_word.specs.Seats.{GateId, Seat, new_seat}
@@ -24,6 +24,8 @@ pub record Worker : Type 0 where
   pub allowance : ℕ
   -- how many gathers of its places came to nothing, as an allocation failed
   pub missed : ℕ
+  -- it offers no message to a group any more
+  pub draining : Bool
 
 -- a visit is going on
 abbrev pub is_inside : Visitor → Bool
@@ -53,9 +55,14 @@ pub record Begins (old new : Worker) : Type 0 where
   pub wakes : new.wakes ≡ old.wakes
   pub allowance : new.allowance ≡ old.allowance
   pub missed : new.missed ≡ old.missed
+  pub draining : new.draining ≡ old.draining
 
 -- the worker leaves
 pub record Leaves (old new : Worker) : Type 0 where
   pub seat : Seat
   pub ended : Ends old.visitor seat
   pub becomes : new ≡ record old { visitor = Outside seat }
+
+-- it drains from now on, where it is told so, and goes on as it was, where not
+abbrev pub draining_if : Bool → Worker → Worker
+draining_if drains worker = record worker { draining = drains || worker.draining }

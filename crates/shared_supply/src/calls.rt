@@ -69,6 +69,7 @@ impl<'a, 'g, B: Broker, N: HistoryName, R: Wait> Supply<BrokerPlace<B>>
             now,
         );
         self.wakes.note(&attached);
+        self.counts.count_attached(&attached);
         attached
     }
 
@@ -133,6 +134,7 @@ impl<'a, 'g, B: Broker, N: HistoryName, R: Wait> Supply<BrokerPlace<B>>
         ensures visiting { is_visiting self.new ≡ is_visiting self.old }
     {
         let shared_broker = self.shared_broker;
+        self.counts.count_ended(&session.membership);
         release(shared_broker.desk.bury(self.rt, &mut self.desk, session));
     }
 
@@ -143,11 +145,14 @@ impl<'a, 'g, B: Broker, N: HistoryName, R: Wait> Supply<BrokerPlace<B>>
 
     fn lend_place(&mut self, slot: u8) -> Option<BrokerPlace<B>> {
         let shared_broker = self.shared_broker;
-        shared_broker.desk.lend_place(self.rt, &mut self.desk, slot)
+        let lent = shared_broker.desk.lend_place(self.rt, &mut self.desk, slot);
+        self.counts.count_lent(slot, &lent);
+        lent
     }
 
     fn take_place(&mut self, place: BrokerPlace<B>) {
         let shared_broker = self.shared_broker;
+        self.counts.count_freed(&place);
         let _back = shared_broker
             .desk
             .take_place(self.rt, &mut self.desk, place);
@@ -175,6 +180,10 @@ impl<'a, 'g, B: Broker, N: HistoryName, R: Wait> Supply<BrokerPlace<B>>
         _connection: u16,
         message: SharedMessage,
     ) -> Result<Stamp, OfferRefusal> {
+        if self.draining {
+            self.counts.count_not_accepted(slot, OfferRefusal::Shut);
+            return Err(OfferRefusal::Shut);
+        }
         let shared_broker = self.shared_broker;
         let turn = turn_of(&self.visitor);
         match self
@@ -182,10 +191,14 @@ impl<'a, 'g, B: Broker, N: HistoryName, R: Wait> Supply<BrokerPlace<B>>
             .offer(&shared_broker.groups, self.rt, turn, slot, message)
         {
             Ok(stamp) => {
-                self.note_brought(slot);
+                self.wakes.count(slot);
+                self.counts.count_accepted(slot);
                 Ok(stamp)
             }
-            Err(refusal) => Err(refusal),
+            Err(refusal) => {
+                self.counts.count_not_accepted(slot, refusal);
+                Err(refusal)
+            }
         }
     }
 
@@ -198,6 +211,7 @@ impl<'a, 'g, B: Broker, N: HistoryName, R: Wait> Supply<BrokerPlace<B>>
         let slot = place.slot();
         let taken = place.take(&shared_broker.groups, self.rt, turn_of(&self.visitor));
         self.note_handed(slot, &taken);
+        self.counts.count_handed(slot, &taken);
         taken
     }
 
@@ -206,11 +220,13 @@ impl<'a, 'g, B: Broker, N: HistoryName, R: Wait> Supply<BrokerPlace<B>>
         let slot = place.slot();
         let taken = place.take_back(&shared_broker.groups, self.rt, turn_of(&self.visitor));
         self.note_handed(slot, &taken);
+        self.counts.count_handed_again(slot, &taken);
         taken
     }
 
     fn settle(&mut self, place: &mut BrokerPlace<B>, envelope: Envelope, fate: Fate) {
         let shared_broker = self.shared_broker;
+        self.counts.count_settled(place.slot(), fate);
         let is_missed = settle(
             self.rt,
             self.alloc,
@@ -231,7 +247,8 @@ impl<'a, 'g, B: Broker, N: HistoryName, R: Wait> Supply<BrokerPlace<B>>
         let slot = place.slot();
         match place.give_back(&shared_broker.groups, self.rt, envelope) {
             Ok(()) => {
-                self.note_brought(slot);
+                self.wakes.count(slot);
+                self.counts.count_given_back(slot);
                 Ok(())
             }
             Err(envelope) => Err(envelope),

@@ -2,16 +2,16 @@
 #![tactic(auto)]
 
 mod calls;
+mod counts;
 mod discarding;
 mod ending;
 mod settling;
 mod shared_broker;
 mod supply;
-mod tallies;
 mod wakes;
 
+pub use counts::{GroupCounts, SessionCounts, SupplyCounts};
 pub use ending::{Emptied, StillOpen, Unemptied};
 pub use shared_broker::SharedBroker;
 pub use supply::{SharedSupply, SupplyParts};
-pub use tallies::GroupTally;
 pub use wakes::{AskedBack, Wakes};

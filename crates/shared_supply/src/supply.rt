@@ -1,13 +1,13 @@
 //! What a worker has of a broker.
-ghost use Rattle.std.specs.Prelude.{◌≡◌, ◌<◌, true};
+ghost use Rattle.std.specs.Prelude.{◌≡◌, ◌<◌, true, false};
 ghost use Rattle.gate_word.specs.Visits.{Ends};
 ghost use Rattle.gate_word.specs.declared.visitor.Visitor.TheVariants.{Inside, Outside};
 ghost use Rattle.shared_supply.specs.Calls.{handing, missing};
-ghost use Rattle.shared_supply.specs.Waking.{KeepsAtMost, no_wakes, one_called, one_more};
-ghost use Rattle.shared_supply.specs.Workers.{Begins, Leaves, visitor_of, is_inside};
+ghost use Rattle.shared_supply.specs.Waking.{KeepsAtMost, no_wakes, one_called};
+ghost use Rattle.shared_supply.specs.Workers.{Begins, Leaves, draining_if, visitor_of, is_inside};
 
+use crate::counts::SupplyCounts;
 use crate::shared_broker::SharedBroker;
-use crate::tallies::{GroupTally, Tallies};
 use crate::wakes::Wakes;
 use broker_groups::{Broker, BrokerPlace, Key, Ports};
 use call_history::HistoryName;
@@ -39,7 +39,9 @@ pub struct SharedSupply<'a, 'g, B: Broker, N: HistoryName, R: Wait> {
     pub(crate) allowance: u32,
     // How many gathers of its places came to nothing, as an allocation failed.
     pub(crate) missed: u64,
-    pub(crate) tallies: Tallies,
+    pub(crate) counts: SupplyCounts,
+    // It offers no message to a group any more.
+    pub(crate) draining: bool,
 }
 
 /// What a worker's supply is made of.
@@ -59,7 +61,7 @@ impl<'a, 'g, B: Broker, N: HistoryName, R: Wait> Model for SharedSupply<'a, 'g, 
 
     ghost Value = { Worker };
 
-    ghost view = { λ s. record { visitor = visitor_of s.visitor; ports = s.ports; known = s.known; desk = s.desk; wakes = s.wakes; allowance = s.allowance; missed = s.missed } };
+    ghost view = { λ s. record { visitor = visitor_of s.visitor; ports = s.ports; known = s.known; desk = s.desk; wakes = s.wakes; allowance = s.allowance; missed = s.missed; draining = s.draining } };
 
     ghost invariant = { λ s. IsVisitorOf B.gate s.visitor × (s.known.table ≡ s.shared_broker.now) };
 }
@@ -76,7 +78,7 @@ impl<'a, 'g, B: Broker, N: HistoryName, R: Wait> SharedSupply<'a, 'g, B, N, R> {
         desk: DeskCaller<BrokerPlace<B>, N>,
     ) -> SharedSupply<'a, 'g, B, N, R>
         requires { known.table ≡ shared_broker.now }
-        ensures { result ≡ record { visitor = Outside key; ports = ports; known = known.entry; desk = desk; wakes = no_wakes; allowance = u32.MAX; missed = 0 } }
+        ensures { result ≡ record { visitor = Outside key; ports = ports; known = known.entry; desk = desk; wakes = no_wakes; allowance = u32.MAX; missed = 0; draining = false } }
     {
         SharedSupply {
             rt,
@@ -89,7 +91,8 @@ impl<'a, 'g, B: Broker, N: HistoryName, R: Wait> SharedSupply<'a, 'g, B, N, R> {
             wakes: Wakes::none(),
             allowance: u32::MAX,
             missed: 0,
-            tallies: Tallies::NONE,
+            counts: SupplyCounts::NONE,
+            draining: false,
         }
     }
 
@@ -124,18 +127,19 @@ impl<'a, 'g, B: Broker, N: HistoryName, R: Wait> SharedSupply<'a, 'g, B, N, R> {
         }
     }
 
-    /// How many messages of the group of this slot it brought there and handed out.
-    pub fn tally(&self, slot: usize) -> GroupTally {
-        self.tallies.of(slot)
+    /// What it counts.
+    pub fn counts(&self) -> &SupplyCounts {
+        &self.counts
     }
 
-    /// One message more is in the group of this slot.
-    pub(crate) fn note_brought(&mut self, slot: u8)
-        requires { slot < 8 }
-        ensures { self.new ≡ record self.old { wakes = one_more slot self.old.wakes } }
+    /// It drains from now on, where it is told so: it answers each message that is published as a closed broker does, and hands out what waits, and what is given
+    /// back, as before. There is no way back.
+    pub fn drain_if(&mut self, drains: bool)
+        ensures { self.new ≡ draining_if drains self.old }
     {
-        self.wakes.count(slot);
-        self.tallies.count_brought(slot);
+        if drains {
+            self.draining = true;
+        }
     }
 
     /// Where an answer has a message of the group of this slot, that is handed out.
@@ -145,7 +149,6 @@ impl<'a, 'g, B: Broker, N: HistoryName, R: Wait> SharedSupply<'a, 'g, B, N, R> {
     {
         self.wakes.note_taken(slot, answer);
         if let Ok(Some(_)) = answer {
-            self.tallies.count_handed(slot);
             self.allowance = self.allowance.saturating_sub(1);
         }
     }
@@ -207,7 +210,8 @@ impl<'a, 'g, B: Broker, N: HistoryName, R: Wait> SharedSupply<'a, 'g, B, N, R> {
             wakes: _,
             allowance: _,
             missed: _,
-            tallies: _,
+            counts: _,
+            draining: _,
         } = self;
         let Some(visitor) = visitor else {
             unreachable!()
