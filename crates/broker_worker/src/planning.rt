@@ -110,15 +110,15 @@ impl<'a, 'g, B: Broker, N: HistoryName, T: Transport + Drop, Q: Poller<T> + Drop
 
     /// Tells the others of a group: of its members, and what it brought and handed out, with so many that it is about to hand out.
     pub(crate) fn tell_load(&self, slot: usize, load: Load, share: u32) {
-        let tally = self.connections.tally(slot);
+        let counts = self.connections.counts(slot);
         self.mailboxes.hints().tell(
             self.number,
             slot,
             Hint {
                 load,
                 average: self.sharing.average(slot),
-                brought: tally.brought,
-                handed: tally.handed.wrapping_add(share),
+                brought: counts.brought(),
+                handed: counts.handed_out().wrapping_add(share),
             },
         );
     }

@@ -227,7 +227,7 @@ module _ (measure : PlaceState → ℕ) where
       done (Called slot) calls old new does none within = aside calls old new none (ap (λ (s : RunState T). s.supply.desk) does) (ap (λ (s : RunState T). has_all s.cells) does) within
       done (Notified most others) calls old new does none within = aside calls old new none (ap (λ (s : RunState T). s.supply.desk) does.1) (ap (λ (s : RunState T). has_all s.cells) does.1) within
       done NotifiedAll calls old new does none within = aside calls old new none (ap (λ (s : RunState T). s.supply.desk) does) (ap (λ (s : RunState T). has_all s.cells) does) within
-      done (Waited at_most now) calls old new does none within = aside calls old new none (ap (λ (s : RunState T). s.supply.desk) does.2) (ap (λ (s : RunState T). has_all s.cells) does.2) within
+      done (Waited at_most now drains) calls old new does none within = aside calls old new none (ap (λ (s : RunState T). s.supply.desk) does.2) (ap (λ (s : RunState T). has_all s.cells) does.2) within
 
       all_done : (deeds : List (Deed T)) (calls : List (SupplyCall PlaceState)) (old new : RunState T) → AreOfDeeds group seen counts given accepted deeds old calls new → AreWithin old.supply.desk → BalancesRun old calls new
       all_done [] calls old new asked within = aside calls old new asked.0 (ap (λ (s : RunState T). s.supply.desk) asked.1) (ap (λ (s : RunState T). has_all s.cells) asked.1) within

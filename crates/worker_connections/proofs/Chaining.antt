@@ -1,5 +1,5 @@
 -- The run of a worker goes on, deed by deed.
-use Rattle.std.proofs.Common.{◌≡◌, ◌≤◌, ℕ, max, List, [], ◌∷◌, ◌++◌, Option, Some, None, replicate, refl, sym, subst, ap, ◌∙◌, inl, inr, append-nil, append_assoc}
+use Rattle.std.proofs.Common.{◌≡◌, ◌≤◌, ℕ, max, Bool, false, List, [], ◌∷◌, ◌++◌, Option, Some, None, replicate, refl, sym, subst, ap, ◌∙◌, inl, inr, append-nil, append_assoc}
 use Rattle.std.specs.List.{slice_get, slice_set}
 use Rattle.transport.specs.declared.counts.Counts.{Counts}
 use Rattle.group_queue.specs.Ports.{GroupId}
@@ -12,7 +12,7 @@ use Rattle.worker_connections.specs.declared.cell_outcome.CellOutcome.{CellOutco
 use Rattle.worker_connections.specs.declared.cell_outcome.CellOutcome.TheVariants.{Vacant, Goes, Ended}
 use Rattle.shared_supply.specs.Calls.{Calls}
 use Rattle.shared_supply.specs.Waking.{KeepsAtMost, no_wakes, one_called}
-use Rattle.shared_supply.specs.Workers.{Worker, Begins, Leaves, is_visiting}
+use Rattle.shared_supply.specs.Workers.{Worker, Begins, Leaves, draining_if, is_visiting}
 use Rattle.worker_connections.specs.declared.served.ServedCounts.{ServedCounts}
 use Rattle.worker_connections.specs.Arrivals.{ArrivedState}
 use Rattle.worker_connections.specs.PollerCalls.{PollerCall, Close, Wait, HasNoCalls, with_call, closed_after}
@@ -41,13 +41,13 @@ module _ {T : Type 0} (group : ℕ → GroupId) (seen : Sights) (counts : T → 
 module _ {T : Type 0} (group : ℕ → GroupId) (seen : Sights) (counts : T → Counts) (given accepted : T → Option (List ℕ)) (first latest : ℕ) where
   -- none yet
   pub runs_from : (count : ℕ) (supply : Worker) (cells : List (Option (ServiceState PlaceState T))) (received : List (ArrivedState T)) (poller_calls : Option (List (PollerCall T))) → cells ≡ replicate count None → received ≡ []
-      → supply.wakes ≡ no_wakes → IsUnused supply.ports supply.desk → HasNoCalls poller_calls → latest ≡ 0
+      → supply.wakes ≡ no_wakes → supply.draining ≡ false → IsUnused supply.ports supply.desk → HasNoCalls poller_calls → latest ≡ 0
       → HasRunTo group seen counts given accepted (record { first = first; supply = supply; cells = cells; received = received; served = none_served; poller_calls = poller_calls; latest = latest })
-  runs_from count supply cells received poller_calls free none quiet unused nothing begins =
+  runs_from count supply cells received poller_calls free none quiet going unused nothing begins =
       let begun : RunState T = record { first = first; supply = supply; cells = cells; received = received; served = none_served; poller_calls = poller_calls; latest = latest } in
       record {
         run = record { first = begun; deeds = []; last = begun };
-        is = record { begun = record { count = count; free = free; none_came = none; none_ended = refl; none_waits = quiet; no_poller_calls = nothing; none_sent = unused.none_sent; none_called = unused.none_called; not_looked = begins }; made = refl };
+        is = record { begun = record { count = count; free = free; none_came = none; none_ended = refl; none_waits = quiet; not_draining = going; no_poller_calls = nothing; none_sent = unused.none_sent; none_called = unused.none_called; not_looked = begins }; made = refl };
         here = refl;
       }
 
@@ -155,14 +155,14 @@ module _ {T : Type 0} (group : ℕ → GroupId) (seen : Sights) (counts : T → 
   told_all_on supply supply' cells received served poller_calls is ran =
       runs_on group seen counts given accepted NotifiedAll _ _ ran (λ i. record { first = first; supply = is i; cells = cells; received = received; served = served; poller_calls = poller_calls; latest = latest })
 
-  -- it waited at its poller, which told its moment
-  pub waits_on : (at_most now latest' : ℕ) (supply : Worker) (cells : List (Option (ServiceState PlaceState T))) (received : List (ArrivedState T)) (served : ServedCounts) (poller_calls poller_calls' : Option (List (PollerCall T)))
-      → OwesNothing (record { first = first; supply = supply; cells = cells; received = received; served = served; poller_calls = poller_calls; latest = latest }) → at_most ≤ sweep_period → poller_calls' ≡ with_call (Wait at_most now) poller_calls → latest' ≡ max latest now
+  -- it waited at its poller, which told its moment, and whether it drains
+  pub waits_on : (at_most now latest' : ℕ) (drains : Bool) (supply : Worker) (cells : List (Option (ServiceState PlaceState T))) (received : List (ArrivedState T)) (served : ServedCounts) (poller_calls poller_calls' : Option (List (PollerCall T)))
+      → OwesNothing (record { first = first; supply = supply; cells = cells; received = received; served = served; poller_calls = poller_calls; latest = latest }) → at_most ≤ sweep_period → poller_calls' ≡ with_call (Wait at_most now drains) poller_calls → latest' ≡ max latest now
       → HasRunTo group seen counts given accepted (record { first = first; supply = supply; cells = cells; received = received; served = served; poller_calls = poller_calls; latest = latest })
-      → HasRunTo group seen counts given accepted (record { first = first; supply = supply; cells = cells; received = received; served = served; poller_calls = poller_calls'; latest = latest' })
-  waits_on at_most now latest' supply cells received served poller_calls poller_calls' owes in_time waits looks ran =
-      runs_on group seen counts given accepted (Waited at_most now) _ _ ran
-      (owes, in_time, λ i. record { first = first; supply = supply; cells = cells; received = received; served = served; poller_calls = waits i; latest = looks i })
+      → HasRunTo group seen counts given accepted (record { first = first; supply = draining_if drains supply; cells = cells; received = received; served = served; poller_calls = poller_calls'; latest = latest' })
+  waits_on at_most now latest' drains supply cells received served poller_calls poller_calls' owes in_time waits looks ran =
+      runs_on group seen counts given accepted (Waited at_most now drains) _ _ ran
+      (owes, in_time, λ i. record { first = first; supply = draining_if drains supply; cells = cells; received = received; served = served; poller_calls = waits i; latest = looks i })
 
   -- its poller closed nothing and did not wait, and its moment is the same
   pub stays_at : (latest' : ℕ) (supply : Worker) (cells : List (Option (ServiceState PlaceState T))) (received : List (ArrivedState T)) (served : ServedCounts) (poller_calls poller_calls' : Option (List (PollerCall T)))
@@ -184,7 +184,7 @@ module _ {T : Type 0} (group : ℕ → GroupId) (seen : Sights) (counts : T → 
   came_one (Called slot) old new does = ap (λ (s : RunState T). s.received) does ∙ sym (append-nil old.received)
   came_one (Notified most others) old new does = ap (λ (s : RunState T). s.received) does.1 ∙ sym (append-nil old.received)
   came_one NotifiedAll old new does = ap (λ (s : RunState T). s.received) does ∙ sym (append-nil old.received)
-  came_one (Waited at_most now) old new does = ap (λ (s : RunState T). s.received) does.2 ∙ sym (append-nil old.received)
+  came_one (Waited at_most now drains) old new does = ap (λ (s : RunState T). s.received) does.2 ∙ sym (append-nil old.received)
 
   pub came_all : (deeds : List (Deed T)) (old new : RunState T) → MakesAll group seen counts given accepted deeds old new → new.received ≡ old.received ++ came_by deeds
   came_all [] old new does = ap (λ (s : RunState T). s.received) does ∙ sym (append-nil old.received)

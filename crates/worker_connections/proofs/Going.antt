@@ -150,7 +150,7 @@ module _ (group : ℕ → GroupId) (seen : Sights) where
     made_going (Called slot) old new does all = subst (λ (s : RunState T). AreGoing s.cells) (sym does) all
     made_going (Notified most others) old new does all = subst (λ (s : RunState T). AreGoing s.cells) (sym does.1) all
     made_going NotifiedAll old new does all = subst (λ (s : RunState T). AreGoing s.cells) (sym does) all
-    made_going (Waited at_most now) old new does all = subst (λ (s : RunState T). AreGoing s.cells) (sym does.2) all
+    made_going (Waited at_most now drains) old new does all = subst (λ (s : RunState T). AreGoing s.cells) (sym does.2) all
 
     all_going : (deeds : List (Deed T)) (old new : RunState T) → MakesAll group seen counts given accepted deeds old new → AreGoing old.cells → AreGoing new.cells
     all_going [] old new does all = subst (λ (s : RunState T). AreGoing s.cells) (sym does) all

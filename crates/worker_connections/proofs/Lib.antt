@@ -15,3 +15,4 @@ pub mod Going
 pub mod Numbers
 pub mod RunCalls
 pub mod Opened
+pub mod Draining

@@ -124,7 +124,7 @@ module _ {T : Type 0} (group : ℕ → GroupId) (seen : Sights) (counts : T → 
   lives (Called slot) old new fresh does all = subst (λ (s : RunState T). AllLived s.cells) (sym does) all
   lives (Notified most others) old new fresh does all = subst (λ (s : RunState T). AllLived s.cells) (sym does.1) all
   lives NotifiedAll old new fresh does all = subst (λ (s : RunState T). AllLived s.cells) (sym does) all
-  lives (Waited at_most now) old new fresh does all = subst (λ (s : RunState T). AllLived s.cells) (sym does.2) all
+  lives (Waited at_most now drains) old new fresh does all = subst (λ (s : RunState T). AllLived s.cells) (sym does.2) all
 
   -- **Each connection has its life in the run**: at each state of it, the connection in a cell was led there by rounds from its opening, with others between them
   pub lives_all : (deeds : List (Deed T)) (old new : RunState T) → AllByRecursion (λ (arrived : ArrivedState T). counts arrived.transport ≡ no_counts) (came_by deeds)

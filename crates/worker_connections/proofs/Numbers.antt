@@ -118,7 +118,7 @@ module _ {T : Type 0} (group : ℕ → GroupId) (seen : Sights) (counts : T → 
   same_first (Called slot) old new does = ap (λ (s : RunState T). s.first) does
   same_first (Notified most others) old new does = ap (λ (s : RunState T). s.first) does.1
   same_first NotifiedAll old new does = ap (λ (s : RunState T). s.first) does
-  same_first (Waited at_most now) old new does = ap (λ (s : RunState T). s.first) does.2
+  same_first (Waited at_most now drains) old new does = ap (λ (s : RunState T). s.first) does.2
 
   all_first : (deeds : List (Deed T)) (old new : RunState T) → MakesAll group seen counts given accepted deeds old new → new.first ≡ old.first
   all_first [] old new does = ap (λ (s : RunState T). s.first) does
@@ -143,7 +143,7 @@ module _ {T : Type 0} (group : ℕ → GroupId) (seen : Sights) (counts : T → 
   numbered (Called slot) old new does all = subst (λ (s : RunState T). AreNumberedFrom old.first s.cells) (sym does) all
   numbered (Notified most others) old new does all = subst (λ (s : RunState T). AreNumberedFrom old.first s.cells) (sym does.1) all
   numbered NotifiedAll old new does all = subst (λ (s : RunState T). AreNumberedFrom old.first s.cells) (sym does) all
-  numbered (Waited at_most now) old new does all = subst (λ (s : RunState T). AreNumberedFrom old.first s.cells) (sym does.2) all
+  numbered (Waited at_most now drains) old new does all = subst (λ (s : RunState T). AreNumberedFrom old.first s.cells) (sym does.2) all
 
   all_numbered : (deeds : List (Deed T)) (old new : RunState T) → MakesAll group seen counts given accepted deeds old new → AreNumberedFrom old.first old.cells → AreNumberedFrom old.first new.cells
   all_numbered [] old new does all = subst (λ (s : RunState T). AreNumberedFrom old.first s.cells) (sym does) all

@@ -13,7 +13,6 @@ use Rattle.group_jobs.specs.Stamps.{Held}
 use Rattle.group_queue.specs.Ports.{GroupId, PortState}
 use Rattle.broker_groups.specs.Answers.{Sights}
 use Rattle.group_queue.specs.Places.{PlaceState}
-use Rattle.broker_groups.specs.Offering.{OffersTo}
 use Rattle.conn_rules.specs.declared.connecting.FirstAnswer.{FirstAnswer}
 use Rattle.conn_rules.specs.declared.connecting.FirstAnswer.TheVariants as first
 use Rattle.conn_rules.specs.declared.publishing.PublishAnswer.{PublishAnswer}
@@ -45,7 +44,7 @@ use Rattle.conn_service.specs.Acts.{Act, Enters, Leaves as Left, Asks, Reads, Wr
 use Rattle.conn_service.specs.Lives.{Does, DoesAll}
 use Rattle.conn_service.specs.Services.{ServiceState}
 use Rattle.conn_service.specs.Visits.{Stand, Outside, Inside, Behind, Parting, Parted, Treads, Walks}
-use Rattle.shared_supply.specs.Calls.{Calls, missing}
+use Rattle.shared_supply.specs.Calls.{Calls, OffersIn, missing}
 use Rattle.shared_supply.specs.Workers.{Worker, Begins, Leaves, is_visiting}
 use Rattle.worker_connections.specs.Chains.{Deed, Opened, Closed, Allowed, MadeRound, Passed, Called, Notified, NotifiedAll, Waited, Makes, Run, RunState}
 use Rattle.worker_connections.specs.EachAct.{EachAct, EachActOf}
@@ -65,18 +64,18 @@ module _ (group : ℕ → GroupId) (seen : Sights) where
   missed_ports false worker = refl
 
   -- a call offers a message, or leaves the ports as they were
-  pub record IsOfferOf (supply_call : SupplyCall PlaceState) (old new : List PortState) : Type 0 where
+  pub record IsOfferOf (is_draining : Bool) (supply_call : SupplyCall PlaceState) (old new : List PortState) : Type 0 where
     pub slot : ℕ
     pub connection : ℕ
     pub message : Message
     pub answer : Result Stamp OfferRefusal
     pub is : offer_of supply_call ≡ Some (slot, connection, message)
-    pub offers : OffersTo group seen.saw_main old slot message answer new
+    pub offers : OffersIn group seen is_draining old slot message answer new
 
-  abbrev OffersOrStays : SupplyCall PlaceState → List PortState → List PortState → Type 0
-  OffersOrStays supply_call old new = ((offer_of supply_call ≡ None) × (new ≡ old)) ⊎ IsOfferOf supply_call old new
+  abbrev OffersOrStays : (is_draining : Bool) → SupplyCall PlaceState → List PortState → List PortState → Type 0
+  OffersOrStays is_draining supply_call old new = ((offer_of supply_call ≡ None) × (new ≡ old)) ⊎ IsOfferOf is_draining supply_call old new
 
-  called : (supply_call : SupplyCall PlaceState) (old new : Worker) → Calls group seen old supply_call new → OffersOrStays supply_call old.ports new.ports
+  called : (supply_call : SupplyCall PlaceState) (old new : Worker) → Calls group seen old supply_call new → OffersOrStays old.draining supply_call old.ports new.ports
   called (Attach request answer) old new is = inl (refl, ap (λ (w : Worker). w.ports) is.1)
   called (Withdraw connection) old new is = inl (refl, ap (λ (w : Worker). w.ports) is.1)
   called (Kicked connection answer) old new (inl same) = inl (refl, ap (λ (w : Worker). w.ports) same.1)
@@ -100,26 +99,28 @@ module _ (group : ℕ → GroupId) (seen : Sights) where
   called (Settle place place' envelope fate) old new is = inl (refl, ap (λ (w : Worker). w.ports) is.2 ∙ missed_ports is.0 old)
   called (GiveBack place place' envelope answer) old new is = inl (refl, ap (λ (w : Worker). w.ports) is.1)
 
-  stays : (supply_call : SupplyCall PlaceState) (old new : List PortState) → OffersOrStays supply_call old new → offer_of supply_call ≡ None → new ≡ old
-  stays supply_call old new (inl same) none = same.1
-  stays supply_call old new (inr offer) none = let never : Some (offer.slot, offer.connection, offer.message) ≡ None = sym offer.is ∙ none in absurd (cc never)
+  stays : (is_draining : Bool) (supply_call : SupplyCall PlaceState) (old new : List PortState) → OffersOrStays is_draining supply_call old new → offer_of supply_call ≡ None → new ≡ old
+  stays is_draining supply_call old new (inl same) none = same.1
+  stays is_draining supply_call old new (inr offer) none = let never : Some (offer.slot, offer.connection, offer.message) ≡ None = sym offer.is ∙ none in absurd (cc never)
 
   -- calls that offer nothing
   all_stay : (supply_calls : List (SupplyCall PlaceState)) (old new : Worker) → offered supply_calls ≡ [] → MakesCalls (Calls group seen) old supply_calls new → new.ports ≡ old.ports
   all_stay [] old new none made = ap (λ (w : Worker). w.ports) made
   all_stay (supply_call ∷ supply_calls) old new none made =
       let parts = none_found (offer_of supply_call) (offered supply_calls) none in
-      all_stay supply_calls made.0 new parts.1 made.2 ∙ stays supply_call old.ports made.0.ports (called supply_call old made.0 made.1) parts.0
+      all_stay supply_calls made.0 new parts.1 made.2 ∙ stays old.draining supply_call old.ports made.0.ports (called supply_call old made.0 made.1) parts.0
 
   plain : {given : List (PlaceState × Held)} {thrown : List (Held × Fate)} {before after : List PlaceState} (old new : Worker) → Plain (Calls group seen) given thrown before after old new → new.ports ≡ old.ports
   plain old new calls = all_stay calls.supply_calls old new calls.offers calls.made
 
   -- a message is offered to each of these slots
   all_put : (slots : List ℕ) (number : ℕ) (message : Message) (taken : ℕ) (old new : Worker) → Offers (Calls group seen) old number message slots taken new
-      → PutsInto group seen old.ports message slots taken new.ports
+      → PutsInto group seen old.draining old.ports message slots taken new.ports
   all_put [] number message taken old new offers = (offers.0, ap (λ (w : Worker). w.ports) offers.1)
   all_put (slot ∷ slots) number message taken old new offers =
-      (offers.0, offers.1.ports, offers.2, offers.3, offers.4.0, offers.5, all_put slots number message offers.3 offers.1 new offers.6, offers.7)
+      let as_it_was = ap (λ (w : Worker). w.draining) offers.4.1 in
+      let others = subst (λ is_draining. PutsInto group seen is_draining offers.1.ports message slots offers.3 new.ports) as_it_was (all_put slots number message offers.3 offers.1 new offers.6) in
+      (offers.0, offers.1.ports, offers.2, offers.3, offers.4.0, offers.5, others, offers.7)
 
   -- a packet that promises nothing
   abbrev IsNoPromise : Option Packet → ConnPhase PlaceState → Type 0
@@ -134,7 +135,7 @@ module _ (group : ℕ → GroupId) (seen : Sights) where
   -- what a PUBLISH made of the ports, and its reply
   abbrev RepliesTo : ℕ → Publish → PublisherState → ConnPhase PlaceState → Reply → PublisherState → Type 0
   RepliesTo now publish old between reply new =
-      ((identifier : ℕ) × (publish_answer publish ≡ answers.Offer identifier) × (taken : ℕ) × PutsInto group seen old.ports (message_of now publish) (slots_matched old publish) taken new.ports
+      ((identifier : ℕ) × (publish_answer publish ≡ answers.Offer identifier) × (taken : ℕ) × PutsInto group seen old.draining old.ports (message_of now publish) (slots_matched old publish) taken new.ports
       × (reply ≡ acknowledging identifier (puback_code (length (slots_matched old publish)) taken)))
       ⊎ ((new.ports ≡ old.ports) × IsNoPromise reply.packet between)
 
@@ -164,11 +165,11 @@ module _ (group : ℕ → GroupId) (seen : Sights) where
   published (answers.Close code) old mid new number now publish between reply answered is kept =
       inr (kept ∙ ap (λ (w : Worker). w.ports) is.1, silent reply _ between (ap (λ (r : Reply). r.packet) is.0) (λ identifier code few same. cc same))
   published (answers.Offer identifier) old mid new number now publish between reply answered is kept =
-      let Puts : List ℕ → List PortState → List PortState → Type 0 = λ slots ports ports'. PutsInto group seen ports (message_of now publish) slots is.taken ports' in
-      let Told : List ℕ → Type 0 = λ slots. Puts slots old.ports new.ports × (reply ≡ acknowledging identifier (puback_code (length slots) is.taken)) in
+      let Puts : List ℕ → Worker → List PortState → Type 0 = λ slots from ports'. PutsInto group seen from.draining from.ports (message_of now publish) slots is.taken ports' in
+      let Told : List ℕ → Type 0 = λ slots. Puts slots old new.ports × (reply ≡ acknowledging identifier (puback_code (length slots) is.taken)) in
       let puts = all_put is.slots number (message_of now publish) is.taken is.mid mid is.offered in
-      let from_old = subst (λ (ports : List PortState). Puts is.slots ports mid.ports) (ap (λ (w : Worker). w.ports) is.matched.1) puts in
-      let to_new = subst (λ (ports : List PortState). Puts is.slots old.ports ports) (sym kept) from_old in
+      let from_old = subst (λ (from : Worker). Puts is.slots from mid.ports) is.matched.1 puts in
+      let to_new = subst (λ (ports : List PortState). Puts is.slots old ports) (sym kept) from_old in
       let told = subst Told is.matched.0 (to_new, is.replied) in
       inl (identifier, answered, is.taken, told.0, told.1)
 
@@ -210,7 +211,7 @@ module _ (group : ℕ → GroupId) (seen : Sights) where
       let handed = plain steps.mid new (handed_behind (Calls group seen) slot_of steps.between now steps.mid new steps.sent phase' steps.hands).calls in
       ⊎_elim
       (λ (it : (identifier : ℕ) × (publish_answer publish ≡ answers.Offer identifier) × (taken : ℕ)
-      × PutsInto group seen old.ports (message_of now publish) (slots_matched (publisher_of old) publish) taken steps.mid.ports
+      × PutsInto group seen old.draining old.ports (message_of now publish) (slots_matched (publisher_of old) publish) taken steps.mid.ports
       × (steps.reply ≡ acknowledging identifier (puback_code (length (slots_matched (publisher_of old) publish)) taken))).
       inl (
         publish,
@@ -219,7 +220,7 @@ module _ (group : ℕ → GroupId) (seen : Sights) where
           identifier = it.0;
           brought = it.1;
           taken = it.2;
-          puts = subst (λ (ports : List PortState). PutsInto group seen old.ports (message_of now publish) (slots_matched (publisher_of old) publish) it.2 ports) (sym handed) it.3;
+          puts = subst (λ (ports : List PortState). PutsInto group seen old.draining old.ports (message_of now publish) (slots_matched (publisher_of old) publish) it.2 ports) (sym handed) it.3;
           others = steps.sent;
           answered = steps.written ∙ ap (λ (r : Reply). option_to_list r.packet ++ steps.sent) it.4;
         },
@@ -265,28 +266,31 @@ module _ (group : ℕ → GroupId) (seen : Sights) where
   at_input inputs.Closing old new number now phase phase' these next steps = of_other _ old new number now phase phase' these next (λ publish is. cc is) steps
 
   -- a message that is offered to the first of these groups
-  pub record OffersFew (message : Message) (slots : List ℕ) (old new : List PortState) : Type 0 where
+  pub record OffersFew (is_draining : Bool) (message : Message) (slots : List ℕ) (old new : List PortState) : Type 0 where
     pub these : List ℕ
     pub others : List ℕ
     pub parts : slots ≡ these ++ others
-    pub puts : PutsSome group seen old message these new
+    pub puts : PutsSome group seen is_draining old message these new
 
-  first_few : (slots : List ℕ) (number : ℕ) (message : Message) (old new : Worker) → OffersFirst (Calls group seen) old number message slots new → OffersFew message slots old.ports new.ports
+  first_few : (slots : List ℕ) (number : ℕ) (message : Message) (old new : Worker) → OffersFirst (Calls group seen) old number message slots new → OffersFew old.draining message slots old.ports new.ports
   first_few [] number message old new offers = absurd offers
   first_few (slot ∷ slots) number message old new (inl last) =
       record { these = slot ∷ []; others = slots; parts = refl; puts = (Err refusal.Memory, new.ports, last.0, refl) }
   first_few (slot ∷ slots) number message old new (inr offers) =
+      let as_it_was = ap (λ (w : Worker). w.draining) offers.3.1 in
       let rest = first_few slots number message offers.1 new offers.5 in
-      record { these = slot ∷ rest.these; others = rest.others; parts = ap (λ (l : List ℕ). slot ∷ l) rest.parts; puts = (offers.0, offers.1.ports, offers.3.0, rest.puts) }
+      let others = subst (λ is_draining. PutsSome group seen is_draining offers.1.ports message rest.these new.ports) as_it_was rest.puts in
+      record { these = slot ∷ rest.these; others = rest.others; parts = ap (λ (l : List ℕ). slot ∷ l) rest.parts; puts = (offers.0, offers.1.ports, offers.3.0, others) }
 
-  few : (slots : List ℕ) (number : ℕ) (message : Message) (old new : Worker) → OffersSome (Calls group seen) old number message slots new → OffersFew message slots old.ports new.ports
+  few : (slots : List ℕ) (number : ℕ) (message : Message) (old new : Worker) → OffersSome (Calls group seen) old number message slots new → OffersFew old.draining message slots old.ports new.ports
   few slots number message old new (inl none) = record { these = []; others = slots; parts = refl; puts = ap (λ (w : Worker). w.ports) none }
   few slots number message old new (inr offers) = first_few slots number message old new offers
 
   -- what was offered to all was offered to the first of them
-  all_of_them : (slots : List ℕ) (message : Message) (taken : ℕ) (old new : List PortState) → PutsInto group seen old message slots taken new → PutsSome group seen old message slots new
-  all_of_them [] message taken old new puts = puts.1
-  all_of_them (slot ∷ slots) message taken old new puts = (puts.0, puts.1, puts.4, all_of_them slots message puts.3 puts.1 new puts.6)
+  all_of_them : (is_draining : Bool) (slots : List ℕ) (message : Message) (taken : ℕ) (old new : List PortState) → PutsInto group seen is_draining old message slots taken new
+      → PutsSome group seen is_draining old message slots new
+  all_of_them is_draining [] message taken old new puts = puts.1
+  all_of_them is_draining (slot ∷ slots) message taken old new puts = (puts.0, puts.1, puts.4, all_of_them is_draining slots message puts.3 puts.1 new puts.6)
 
   abbrev CutsOrStays : ℕ → Publish → PublisherState → PublisherState → Type 0
   CutsOrStays now publish old new = IsCutShort group seen now publish old new ⊎ (new.ports ≡ old.ports)
@@ -294,7 +298,7 @@ module _ (group : ℕ → GroupId) (seen : Sights) where
   -- a connection that is given up for want of memory
   left_off : (phase : ConnPhase PlaceState) (old new : Worker) (number now : ℕ) → LeavesOff (Calls group seen) slot_of old number phase now new → new.ports ≡ old.ports
   left_off (Unconnected opened) old new number now gives = ap (λ (w : Worker). w.ports) gives
-  left_off (Waiting request ticks) old new number now gives = stays (Withdraw number) old.ports new.ports (called (Withdraw number) old new gives) refl
+  left_off (Waiting request ticks) old new number now gives = stays old.draining (Withdraw number) old.ports new.ports (called (Withdraw number) old new gives) refl
   left_off (Connected connected) old new number now gives = plain old new (parted (Calls group seen) old new connected.session now gives)
   left_off Ended old new number now gives = ap (λ (w : Worker). w.ports) gives
 
@@ -309,10 +313,10 @@ module _ (group : ℕ → GroupId) (seen : Sights) where
       let cut = answer.2.0 in
       let some = few cut.slots number (message_of now publish) cut.mid answer.1 cut.offered in
       let kept = plain answer.1 new (parted (Calls group seen) answer.1 new answer.0.session now answer.3) in
-      let Puts : List PortState → List PortState → Type 0 = λ ports ports'. PutsSome group seen ports (message_of now publish) some.these ports' in
-      let from_mid = subst (λ (ports : List PortState). Puts ports answer.1.ports) (ap (λ (w : Worker). w.ports) cut.matched.1) some.puts in
+      let Puts : Worker → List PortState → Type 0 = λ from ports'. PutsSome group seen from.draining from.ports (message_of now publish) some.these ports' in
+      let from_mid = subst (λ (from : Worker). Puts from answer.1.ports) cut.matched.1 some.puts in
       let at_mid : IsCutShort group seen now publish (publisher_of mid) (publisher_of new) =
-      record { slots = some.these; others = some.others; matched = sym cut.matched.0 ∙ some.parts; puts = subst (Puts mid.ports) (sym kept) from_mid } in
+      record { slots = some.these; others = some.others; matched = sym cut.matched.0 ∙ some.parts; puts = subst (Puts mid) (sym kept) from_mid } in
       subst (λ (from : PublisherState). IsCutShort group seen now publish from (publisher_of new)) (asked_of_desk number false old mid fails.1) at_mid
   unanswered Ended publish old new number now fails = absurd fails
 
@@ -335,14 +339,14 @@ module _ (group : ℕ → GroupId) (seen : Sights) where
       let kept = handed_less hand.between hand.mid new now hand.hands in
       ⊎_elim
       (λ (it : (identifier : ℕ) × (publish_answer publish ≡ answers.Offer identifier) × (taken : ℕ)
-      × PutsInto group seen old.ports (message_of now publish) (slots_matched (publisher_of old) publish) taken hand.mid.ports
+      × PutsInto group seen old.draining old.ports (message_of now publish) (slots_matched (publisher_of old) publish) taken hand.mid.ports
       × (hand.reply ≡ acknowledging identifier (puback_code (length (slots_matched (publisher_of old) publish)) taken))).
       inl (record {
         slots = slots_matched (publisher_of old) publish;
         others = [];
         matched = sym (append-nil (slots_matched (publisher_of old) publish));
-        puts = subst (λ (ports : List PortState). PutsSome group seen old.ports (message_of now publish) (slots_matched (publisher_of old) publish) ports) (sym kept)
-            (all_of_them (slots_matched (publisher_of old) publish) (message_of now publish) it.2 old.ports hand.mid.ports it.3);
+        puts = subst (λ (ports : List PortState). PutsSome group seen old.draining old.ports (message_of now publish) (slots_matched (publisher_of old) publish) ports) (sym kept)
+            (all_of_them old.draining (slots_matched (publisher_of old) publish) (message_of now publish) it.2 old.ports hand.mid.ports it.3);
       }))
       (λ (it : (hand.mid.ports ≡ old.ports) × IsNoPromise hand.reply.packet hand.between). inr (kept ∙ it.0))
       (reacted phase publish old hand.mid number now hand.between hand.reply hand.reacts))
@@ -390,7 +394,7 @@ module _ (group : ℕ → GroupId) (seen : Sights) where
     acted (Enters is_open reads) old new supply supply' now from to does treads = does.begun.ports
     acted Left old new supply supply' now from to does treads = ap (λ (w : Worker). w.ports) does.ended.becomes
     acted (Asks is_kicked) old new supply supply' now from to does treads =
-        stays (Kicked old.client.conn.number is_kicked) supply.ports supply'.ports (called (Kicked old.client.conn.number is_kicked) supply supply' does.asked) refl
+        stays supply.draining (Kicked old.client.conn.number is_kicked) supply.ports supply'.ports (called (Kicked old.client.conn.number is_kicked) supply supply' does.asked) refl
     acted (Reads size got bytes) old new supply supply' now from to does treads = ap (λ (w : Worker). w.ports) does.same
     acted (Writes at put) old new supply supply' now from to does treads = ap (λ (w : Worker). w.ports) does.same
     acted (Steps at input these next) old new supply supply' now from to does treads =
@@ -444,7 +448,7 @@ module _ (group : ℕ → GroupId) (seen : Sights) where
     done (Called slot) old new does = tt
     done (Notified most others) old new does = tt
     done NotifiedAll old new does = tt
-    done (Waited at_most now) old new does = tt
+    done (Waited at_most now drains) old new does = tt
 
     -- all that came into the ports was published by the acts of the run
     pub all_published : (run : Run T) → IsPublishedBy group seen counts given accepted run

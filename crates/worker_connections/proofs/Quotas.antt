@@ -84,7 +84,7 @@ module _ {T : Type 0} (group : ℕ → GroupId) (seen : Sights) (counts : T → 
   keeps limit (Called slot) old new few does all = subst (λ (s : RunState T). All (IfWithin limit) s.cells) (sym does) all
   keeps limit (Notified most others) old new few does all = subst (λ (s : RunState T). All (IfWithin limit) s.cells) (sym does.1) all
   keeps limit NotifiedAll old new few does all = subst (λ (s : RunState T). All (IfWithin limit) s.cells) (sym does) all
-  keeps limit (Waited at_most now) old new few does all = subst (λ (s : RunState T). All (IfWithin limit) s.cells) (sym does.2) all
+  keeps limit (Waited at_most now drains) old new few does all = subst (λ (s : RunState T). All (IfWithin limit) s.cells) (sym does.2) all
 
   keeps_all : (limit : ℕ) (deeds : List (Deed T)) (old new : RunState T) → AllByRecursion (IsLimited limit) (came_by deeds) → MakesAll group seen counts given accepted deeds old new
       → All (IfWithin limit) old.cells → All (IfWithin limit) new.cells

@@ -100,7 +100,7 @@ module _ {T : Type 0} (group : ℕ → GroupId) (seen : Sights) (counts : T → 
   done (Called slot) old new does = ([], refl)
   done (Notified most others) old new does = ([], refl)
   done NotifiedAll old new does = ([], refl)
-  done (Waited at_most now) old new does = ([], refl)
+  done (Waited at_most now drains) old new does = ([], refl)
 
   all_done : (deeds : List (Deed T)) (old new : RunState T) → MakesAll group seen counts given accepted deeds old new → (calls : List (SupplyCall PlaceState)) × AreOfDeeds group seen counts given accepted deeds old calls new
   all_done [] old new does = ([], (refl, does))

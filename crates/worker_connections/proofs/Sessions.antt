@@ -54,7 +54,7 @@ module _ {T : Type 0} (group : ℕ → GroupId) (seen : Sights) (counts : T → 
   told (Called slot) old new all does = tt
   told (Notified most others) old new all does = tt
   told NotifiedAll old new all does = tt
-  told (Waited at_most now) old new all does = tt
+  told (Waited at_most now drains) old new all does = tt
 
   -- each run does
   pub all_sessions : (run : Run T) → IsRun group seen counts given accepted run → KeepsSessions group seen counts given accepted run

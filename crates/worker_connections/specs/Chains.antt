@@ -1,5 +1,5 @@
 -- The run of a worker: what it did, one deed after the other, each at the state that the one before it left, from ports through which nothing was published.
-use Rattle.std.specs.Prelude.{◌≡◌, ◌≤◌, ℕ, ◌+◌, max, List, [], ◌∷◌, ◌++◌, Option, Some, None, replicate, slice_get}
+use Rattle.std.specs.Prelude.{◌≡◌, ◌≤◌, ℕ, ◌+◌, max, Bool, false, List, [], ◌∷◌, ◌++◌, Option, Some, None, replicate, slice_get}
 use Rattle.std.specs.List.{flat_map}
 use Rattle.transport.specs.declared.counts.Counts.{Counts}
 use Rattle.group_queue.specs.Ports.{GroupId}
@@ -16,7 +16,7 @@ use Rattle.conn_service.specs.Lives.{DoesAll, Rounds}
 use Rattle.worker_connections.specs.Cells.{InCell, Opens, occupied}
 use Rattle.shared_supply.specs.Calls.{Calls}
 use Rattle.shared_supply.specs.Waking.{KeepsAtMost, no_wakes, one_called}
-use Rattle.shared_supply.specs.Workers.{Worker, Begins, Leaves, is_visiting}
+use Rattle.shared_supply.specs.Workers.{Worker, Begins, Leaves, draining_if, is_visiting}
 use Rattle.worker_connections.specs.declared.served.ServedCounts.{ServedCounts}
 use Rattle.worker_connections.specs.Arrivals.{ArrivedState, IsWatched, opening_at}
 use Rattle.worker_connections.specs.PollerCalls.{PollerCall, Register, Close, Wait, HasNoCalls, with_call, closed_if}
@@ -41,8 +41,8 @@ pub data Deed (T : Type 0) : Type 0 where
   Notified : (most others : List ℕ) → Deed T
   -- it told others all that they wait for
   NotifiedAll : Deed T
-  -- it waited at its poller for so many milliseconds at most, which then told this moment
-  Waited : (at_most now : ℕ) → Deed T
+  -- it waited at its poller for so many milliseconds at most, which then told this moment, and whether it drains from then on
+  Waited : (at_most now : ℕ) → (drains : Bool) → Deed T
 
 -- what a worker has: the number of the connection in its first cell, from which on those in the others have theirs; what it asks, its connections, those that came, in order, how
 -- connections ended, and the calls of its poller by which it had transports watched, closed them and waited, in order; `None` where its poller does not tell them. Its moment is the
@@ -62,13 +62,14 @@ pub record Run (T : Type 0) : Type 0 where
   pub deeds : List (Deed T)
   pub last : RunState T
 
--- nothing came yet, it did not wait yet, nothing was published, and the desk was not called: so what its ports have in the end was published in the run, and the calls that are its own were made in it
+-- nothing came yet, it did not wait yet, it does not drain, nothing was published, and the desk was not called: so what its ports have in the end was published in the run, and the calls that are its own were made in it
 pub record IsFirst {T : Type 0} (state : RunState T) : Type 0 where
   pub count : ℕ
   pub free : state.cells ≡ replicate count None
   pub none_came : state.received ≡ []
   pub none_ended : state.served ≡ none_served
   pub none_waits : state.supply.wakes ≡ no_wakes
+  pub not_draining : state.supply.draining ≡ false
   pub no_poller_calls : HasNoCalls state.poller_calls
   pub none_sent : AreUnsent state.supply.ports
   pub none_called : state.supply.desk.own ≡ []
@@ -102,8 +103,8 @@ module _ {T : Type 0} (group : ℕ → GroupId) (seen : Sights) (counts : T → 
     pub leaves : LeavesCell how behind after
     pub closes : poller_calls' ≡ closed_if cell how behind.transport poller_calls
 
-  -- what a deed makes of the worker. What it does at a moment it does at its own one, and that changes only where it waited. **It waits only where it owes
-  -- nothing**, and no longer than 50 milliseconds
+  -- what a deed makes of the worker. What it does at a moment it does at its own one, and that changes only where it waited; **and it drains only from a wait on whose
+  -- poller told it so**. **It waits only where it owes nothing**, and no longer than 50 milliseconds
   abbrev pub Makes : Deed T → RunState T → RunState T → Type 0
   Makes (Opened arrived cell now) old new =
       (watched : T) × IsWatched counts given accepted arrived.transport watched × InCell old.cells cell (Opens (old.first + cell) (opening_at now arrived) watched) new.cells
@@ -121,7 +122,9 @@ module _ {T : Type 0} (group : ℕ → GroupId) (seen : Sights) (counts : T → 
   Makes (Notified most others) old new =
       KeepsAtMost most others old.supply.wakes new.supply.wakes × (new ≡ record old { supply = record old.supply { wakes = new.supply.wakes } })
   Makes NotifiedAll old new = new ≡ record old { supply = record old.supply { wakes = no_wakes } }
-  Makes (Waited at_most now) old new = OwesNothing old × (at_most ≤ sweep_period) × (new ≡ record old { poller_calls = with_call (Wait at_most now) old.poller_calls; latest = max old.latest now })
+  Makes (Waited at_most now drains) old new =
+      OwesNothing old × (at_most ≤ sweep_period)
+      × (new ≡ record old { supply = draining_if drains old.supply; poller_calls = with_call (Wait at_most now drains) old.poller_calls; latest = max old.latest now })
 
   -- these deeds, one after the other
   abbrev pub MakesAll : List (Deed T) → RunState T → RunState T → Type 0

@@ -13,3 +13,4 @@ pub mod Cells
 pub mod EachAct
 pub mod Numbers
 pub mod RunCalls
+pub mod Draining

@@ -1,5 +1,5 @@
 -- The calls that a worker makes of its poller: it has transports watched, closes them, and waits.
-use Rattle.std.specs.Prelude.{◌≡◌, ℕ, List, [], ◌∷◌, ◌++◌, Option, Some, None, IfSome, option_map}
+use Rattle.std.specs.Prelude.{◌≡◌, ℕ, Bool, List, [], ◌∷◌, ◌++◌, Option, Some, None, IfSome, option_map}
 use Rattle.conn_service.specs.declared.served.Served.{Served}
 use Rattle.worker_connections.specs.declared.cell_outcome.CellOutcome.{CellOutcome}
 use Rattle.worker_connections.specs.declared.cell_outcome.CellOutcome.TheVariants as turns
@@ -10,8 +10,8 @@ pub data PollerCall (T : Type 0) : Type 0 where
   Register : (number : Option ℕ) → (transport : T) → PollerCall T
   -- it closed a transport, which was as it is here, and lets go of this number, under which it was watched, if it was
   Close : (number : Option ℕ) → (transport : T) → PollerCall T
-  -- it waited for so many milliseconds at most, and told this moment after that
-  Wait : (at_most now : ℕ) → PollerCall T
+  -- it waited for so many milliseconds at most, and told this moment after that, and whether the worker drains from then on
+  Wait : (at_most now : ℕ) → (drains : Bool) → PollerCall T
 
 -- this call too, where it is known which were made
 abbrev pub with_call : {T : Type 0} → PollerCall T → Option (List (PollerCall T)) → Option (List (PollerCall T))

@@ -1,6 +1,6 @@
 -- How messages come into the ports of a worker: by the PUBLISH packets that its connections step, each through the ports of the groups whose filters match its topic, and by
 -- nothing else; and what their PUBACKs say of them (3.3.4, 3.4.2.1 and 4.7).
-use Rattle.std.specs.Prelude.{◌≡◌, ◌⊎◌, ℕ, ◌+◌, ◌<◌, max, List, [], ◌∷◌, ◌++◌, length, Option, Result}
+use Rattle.std.specs.Prelude.{◌≡◌, ◌⊎◌, ℕ, ◌+◌, ◌<◌, max, Bool, List, [], ◌∷◌, ◌++◌, length, Option, Result}
 use Rattle.transport.specs.declared.counts.Counts.{Counts}
 use Rattle.mqtt_packet.specs.declared.packet.Packet.{Packet}
 use Rattle.mqtt_packet.specs.declared.packet.Packet.TheVariants as packets
@@ -11,7 +11,6 @@ use Rattle.group_jobs.specs.declared.stamp.Stamp.{Stamp}
 use Rattle.group_queue.specs.Ports.{GroupId, PortState}
 use Rattle.group_queue.specs.Places.{PlaceState}
 use Rattle.broker_groups.specs.Answers.{Sights}
-use Rattle.broker_groups.specs.Offering.{OffersTo}
 use Rattle.conn_rules.specs.declared.publishing.PublishAnswer.TheVariants.{Offer}
 use Rattle.conn_rules.specs.Packets.{puback}
 use Rattle.conn_rules.specs.Publishing.{publish_answer, puback_code, message_of}
@@ -22,17 +21,19 @@ use Rattle.conn_engine.specs.declared.input.Input.TheVariants as inputs
 use Rattle.conn_service.specs.Acts.{Act, Steps, Loses, Fails}
 use Rattle.conn_service.specs.Services.{ServiceState}
 use Rattle.shared_routes.specs.Known.{KnownState}
+use Rattle.shared_supply.specs.Calls.{OffersIn}
 use Rattle.shared_supply.specs.Workers.{Worker}
 use Rattle.worker_connections.specs.Chains.{Deed, Makes, MakesAll, Run, RunState}
 use Rattle.worker_connections.specs.EachAct.{EachActOf}
 
--- what a worker publishes through, and what it knows of the routes
+-- what a worker publishes through, what it knows of the routes, and whether it drains
 pub record PublisherState : Type 0 where
   pub ports : List PortState
   pub known : KnownState
+  pub draining : Bool
 
 abbrev pub publisher_of : Worker → PublisherState
-publisher_of worker = record { ports = worker.ports; known = worker.known }
+publisher_of worker = record { ports = worker.ports; known = worker.known; draining = worker.draining }
 
 -- the slots of the groups whose filters match the topic of a PUBLISH, of those that are known
 abbrev pub slots_matched : PublisherState → Publish → List ℕ
@@ -43,18 +44,18 @@ abbrev pub IsPromised : List Packet → Type 0
 IsPromised sent = (identifier code : ℕ) × (others : List Packet) × (code < 0x80) × (sent ≡ puback identifier code ∷ others)
 
 module _ (group : ℕ → GroupId) (seen : Sights) where
-  -- a message is offered through the ports of these slots, in their order, and so many of their groups take it
-  abbrev pub PutsInto : List PortState → Message → List ℕ → ℕ → List PortState → Type 0
-  PutsInto ports message [] taken ports' = (taken ≡ 0) × (ports' ≡ ports)
-  PutsInto ports message (slot ∷ slots) taken ports' =
+  -- a message is offered through the ports of these slots, in their order, by a worker that drains, or does not, and so many of their groups take it
+  abbrev pub PutsInto : (is_draining : Bool) → List PortState → Message → List ℕ → ℕ → List PortState → Type 0
+  PutsInto is_draining ports message [] taken ports' = (taken ≡ 0) × (ports' ≡ ports)
+  PutsInto is_draining ports message (slot ∷ slots) taken ports' =
       (answer : Result Stamp OfferRefusal) × (mid : List PortState) × (first rest : ℕ)
-      × OffersTo group seen.saw_main ports slot message answer mid × Took answer first × PutsInto mid message slots rest ports' × (taken ≡ first + rest)
+      × OffersIn group seen is_draining ports slot message answer mid × Took answer first × PutsInto is_draining mid message slots rest ports' × (taken ≡ first + rest)
 
   -- the same, whatever is answered
-  abbrev pub PutsSome : List PortState → Message → List ℕ → List PortState → Type 0
-  PutsSome ports message [] ports' = ports' ≡ ports
-  PutsSome ports message (slot ∷ slots) ports' =
-      (answer : Result Stamp OfferRefusal) × (mid : List PortState) × OffersTo group seen.saw_main ports slot message answer mid × PutsSome mid message slots ports'
+  abbrev pub PutsSome : (is_draining : Bool) → List PortState → Message → List ℕ → List PortState → Type 0
+  PutsSome is_draining ports message [] ports' = ports' ≡ ports
+  PutsSome is_draining ports message (slot ∷ slots) ports' =
+      (answer : Result Stamp OfferRefusal) × (mid : List PortState) × OffersIn group seen is_draining ports slot message answer mid × PutsSome is_draining mid message slots ports'
 
   -- a PUBLISH that came at this moment, and whose message was offered through the port of each group that matches, once, and how many of these groups took it: its PUBACK, in front of all that the step
   -- sent, says that, and nothing else came into the ports
@@ -62,7 +63,7 @@ module _ (group : ℕ → GroupId) (seen : Sights) where
     pub identifier : ℕ
     pub brought : publish_answer publish ≡ Offer identifier
     pub taken : ℕ
-    pub puts : PutsInto old.ports (message_of now publish) (slots_matched old publish) taken new.ports
+    pub puts : PutsInto old.draining old.ports (message_of now publish) (slots_matched old publish) taken new.ports
     pub others : List Packet
     pub answered : sent ≡ puback identifier (puback_code (length (slots_matched old publish)) taken) ∷ others
 
@@ -77,7 +78,7 @@ module _ (group : ℕ → GroupId) (seen : Sights) where
     pub slots : List ℕ
     pub others : List ℕ
     pub matched : slots_matched old publish ≡ slots ++ others
-    pub puts : PutsSome old.ports (message_of now publish) slots new.ports
+    pub puts : PutsSome old.draining old.ports (message_of now publish) slots new.ports
 
   -- what a step made of them in which an allocation failed: a PUBLISH was cut short, and nothing was sent; or they are as they were
   abbrev pub PublishesSome : ℕ → Input → PublisherState → PublisherState → Type 0

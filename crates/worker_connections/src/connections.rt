@@ -1,11 +1,11 @@
 //! The connections of a worker: those that it received are open, or have ended and are counted.
-ghost use Rattle.std.specs.Prelude.{◌≡◌, ◌<◌, ◌≤◌, ◌+◌, ℕ, [], None, true, false, replicate, length};
+ghost use Rattle.std.specs.Prelude.{◌≡◌, ◌<◌, ◌≤◌, ◌+◌, ℕ, Bool, [], None, true, false, replicate, length};
 ghost use Rattle.group_queue.specs.Places.{PlaceState};
 ghost use Rattle.worker_connections.specs.Cells.{FollowsIn, InCell, Turns, ended_by, occupied};
 ghost use Rattle.worker_connections.specs.declared.cell_outcome.CellOutcome.{CellOutcome as AnyOutcome};
 ghost use Rattle.shared_supply.specs.Calls.{Calls};
 ghost use Rattle.shared_supply.specs.Waking.{KeepsAtMost, no_wakes};
-ghost use Rattle.shared_supply.specs.Workers.{Begins as BeginsVisit, Leaves as LeavesVisit, is_visiting};
+ghost use Rattle.shared_supply.specs.Workers.{Begins as BeginsVisit, Leaves as LeavesVisit, draining_if, is_visiting};
 ghost use Rattle.worker_connections.specs.Chains.{HasRunTo, OwesNothing};
 ghost use Rattle.worker_connections.specs.PollerCalls.{Wait as WaitCall, HasNoCalls, with_call};
 ghost use Rattle.worker_connections.specs.Handles.{IsUnused};
@@ -29,7 +29,7 @@ use broker_groups::{Broker, BrokerPlace};
 use call_history::HistoryName;
 use conn_channel::{Received, Receiver};
 use conn_service::{Direction, Round};
-use shared_supply::{GroupTally, SharedSupply, SupplyParts, Wakes};
+use shared_supply::{GroupCounts, SharedSupply, SupplyParts, Wakes};
 use std::marker::Model;
 use std::sync::Wait;
 use transport::{Crossing, Transport};
@@ -87,7 +87,7 @@ impl<'a, 'g, B: Broker, N: HistoryName, T: Transport + Drop, Q: Poller<T>, R: Wa
     R,
 > {
     /// None yet, of those that this end of the channel will receive; this table is for them, with these numbers from the first cell's on, these are their wishes, this supply is what
-    /// they ask, and at this poller their worker waits for them. Nothing was published through the supply's ports, it made no call of the desk, and the poller was not used yet.
+    /// they ask, and at this poller their worker waits for them. Nothing was published through the supply's ports, it made no call of the desk and does not drain, and the poller was not used yet.
     pub fn new(
         first: u16,
         receiver: Receiver<Arrived<T>>,
@@ -99,6 +99,7 @@ impl<'a, 'g, B: Broker, N: HistoryName, T: Transport + Drop, Q: Poller<T>, R: Wa
         requires receiver { receiver.received ≡ [] }
         requires table { table ≡ replicate (length members) None }
         requires supply { supply.wakes ≡ no_wakes }
+        requires draining { supply.draining ≡ false }
         requires unused { IsUnused supply.ports supply.desk }
         requires poller_calls { HasNoCalls (Q.poller_calls poller) }
         ensures fresh { AreFresh receiver supply.entry.ports result }
@@ -194,9 +195,9 @@ impl<'a, 'g, B: Broker, N: HistoryName, T: Transport + Drop, Q: Poller<T>, R: Wa
         self.members.note_served(cell, slot);
     }
 
-    /// How many messages of the group of a slot they brought there and handed out.
-    pub fn tally(&self, slot: usize) -> GroupTally {
-        self.supply.tally(slot)
+    /// What they count of the messages of the group of a slot.
+    pub fn counts(&self, slot: usize) -> GroupCounts {
+        self.supply.counts().of(slot)
     }
 
     /// How many of the messages that the latest round might have handed out it did not.
@@ -237,14 +238,18 @@ impl<'a, 'g, B: Broker, N: HistoryName, T: Transport + Drop, Q: Poller<T>, R: Wa
         self.supply.take_wakes()
     }
 
-    /// Waits until something may be read or written, or the worker is called, or for so many milliseconds; the worker's moment is that behind it. Whether it was called.
+    /// Waits until something may be read or written, or the worker is called, or for so many milliseconds; the worker's moment is that behind it, and from then on it
+    /// drains, where the poller tells so. Whether it was called.
     pub fn wait(&mut self, rt: &R, at_most: u64) -> bool
         requires owes { OwesNothing (run_of self.old) }
         requires in_time { at_most ≤ sweep_period }
-        ensures { (now : ℕ) × (self.new ≡ record self.old { poller_calls = with_call (WaitCall at_most now) self.old.poller_calls; sweeps = looked now self.old.sweeps }) }
+        ensures { (now : ℕ) × (drains : Bool) × (self.new ≡ record self.old { supply = draining_if drains self.old.supply; poller_calls = with_call (WaitCall at_most now drains) self.old.poller_calls; sweeps = looked now self.old.sweeps }) }
     {
-        let woken = self.poller.wait(rt, at_most);
+        let woken = self
+            .poller
+            .wait(rt, at_most, self.supply.counts(), &self.served);
         self.sweeps.look(woken.now);
+        self.supply.drain_if(woken.drains);
         woken.called
     }
 

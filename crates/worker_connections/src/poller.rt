@@ -3,7 +3,9 @@ ghost use Rattle.std.specs.Prelude.{◌≡◌, List, Option};
 ghost use Rattle.worker_connections.specs.Arrivals.{IsWatched};
 ghost use Rattle.worker_connections.specs.PollerCalls.{PollerCall, Register, Close, Wait as WaitCall, with_call};
 
+use crate::served::ServedCounts;
 use bell::Wake;
+use shared_supply::SupplyCounts;
 use std::sync::Wait;
 use transport::{Crossing, Transport};
 
@@ -14,6 +16,9 @@ pub struct Woken {
     pub called: bool,
     /// The moment, in milliseconds.
     pub now: u64,
+    /// Whether the worker drains from now on: it accepts no message that is published any more, and goes on to hand out what waits. It does so to its end, whatever
+    /// later waits tell.
+    pub drains: bool,
 }
 
 /// Where a worker waits for its connections, and for a call of the others, and learns the moment; and what its connections cross before they write.
@@ -33,9 +38,16 @@ pub trait Poller<T: Transport>: Crossing {
     fn close(&mut self, number: Option<usize>, transport: T)
         ensures { poller_calls self.new ≡ with_call (Close number transport) (poller_calls self.old) };
 
-    /// Waits until something may be read or written, or the worker is called, or for so many milliseconds.
-    fn wait<R: Wait>(&mut self, rt: &R, at_most: u64) -> Woken
-        ensures { poller_calls self.new ≡ with_call (WaitCall at_most result.now) (poller_calls self.old) };
+    /// Waits until something may be read or written, or the worker is called, or for so many milliseconds. It is told what the worker counts: of its messages and
+    /// its sessions, and of its connections that have ended.
+    fn wait<R: Wait>(
+        &mut self,
+        rt: &R,
+        at_most: u64,
+        counts: &SupplyCounts,
+        served: &ServedCounts,
+    ) -> Woken
+        ensures { poller_calls self.new ≡ with_call (WaitCall at_most result.now result.drains) (poller_calls self.old) };
 
     /// The number of one that may be read or written, by the last wait.
     fn take_ready(&mut self) -> Option<usize>

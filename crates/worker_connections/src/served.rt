@@ -33,6 +33,26 @@ impl ServedCounts {
         stalled: 0,
     };
 
+    /// How many have ended.
+    pub fn total(&self) -> u64 {
+        self.ended
+            .saturating_add(self.read)
+            .saturating_add(self.write)
+            .saturating_add(self.memory)
+            .saturating_add(self.no_crossing)
+            .saturating_add(self.stalled)
+    }
+
+    /// Adds those of another worker.
+    pub fn add(&mut self, other: &ServedCounts) {
+        self.ended = self.ended.saturating_add(other.ended);
+        self.read = self.read.saturating_add(other.read);
+        self.write = self.write.saturating_add(other.write);
+        self.memory = self.memory.saturating_add(other.memory);
+        self.no_crossing = self.no_crossing.saturating_add(other.no_crossing);
+        self.stalled = self.stalled.saturating_add(other.stalled);
+    }
+
     /// Counts one that ended so.
     pub fn count(&mut self, served: Served)
         ensures { self.new ≡ counted served self.old }

@@ -18,5 +18,5 @@ invariant_of-result g c =
       sym (ap length c.requires.table ∙ length-replicate (length c.args.members) None),
       none_wished _ c.args.table c.args.members c.requires.table,
       runs_from g.B.Broker.group (record { saw_ledger = g.B.Seen.LedgerWitness.saw_ledger; saw_main = g.B.Seen.Witness.saw_main; saw_returns = g.B.Seen.Witness.saw_returns }) g.T.Transport.counts g.T.Transport.given g.T.Transport.accepted c.args.first _ (length c.args.members) c.args.supply c.args.table c.args.receiver.received
-          (g.Q.Poller.poller_calls c.args.poller) c.requires.table c.requires.receiver c.requires.supply c.requires.unused c.requires.poller_calls refl,
+          (g.Q.Poller.poller_calls c.args.poller) c.requires.table c.requires.receiver c.requires.supply c.requires.draining c.requires.unused c.requires.poller_calls refl,
     )
