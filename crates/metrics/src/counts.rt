@@ -1,0 +1,90 @@
+//! What the workers of a broker have counted, for whoever asks.
+ghost use Rattle.std.specs.Prelude.{◌≡◌, length, IfOk};
+
+use shared_supply::SupplyCounts;
+use std::alloc::{AllocError, Global};
+use std::sync::{Mutex, Wait};
+use worker_connections::ServedCounts;
+
+/// What one worker has counted since it began, or what several have together.
+#[derive(Clone, Copy, Debug, PartialEq, Eq)]
+pub struct WorkerCounts {
+    /// Of messages and sessions.
+    pub supply: SupplyCounts,
+    /// Of connections that have ended.
+    pub served: ServedCounts,
+    /// How many connections it took up.
+    pub opened: u64,
+    /// How often it waited.
+    pub turns: u64,
+    /// How often a call of another worker ended its wait.
+    pub calls: u64,
+    /// 1 where it drains; of several, how many do.
+    pub draining: u64,
+}
+
+impl WorkerCounts {
+    /// Nothing has happened yet.
+    pub const NONE: WorkerCounts = WorkerCounts {
+        supply: SupplyCounts::NONE,
+        served: ServedCounts::NONE,
+        opened: 0,
+        turns: 0,
+        calls: 0,
+        draining: 0,
+    };
+
+    /// How many connections have not ended.
+    pub fn live(&self) -> u64 {
+        self.opened.saturating_sub(self.served.total())
+    }
+
+    /// Adds what another worker has counted.
+    pub fn add(&mut self, other: &WorkerCounts) {
+        self.supply.add(&other.supply);
+        self.served.add(&other.served);
+        self.opened = self.opened.saturating_add(other.opened);
+        self.turns = self.turns.saturating_add(other.turns);
+        self.calls = self.calls.saturating_add(other.calls);
+        self.draining = self.draining.saturating_add(other.draining);
+    }
+}
+
+/// Where a worker puts what it has counted, for whoever asks. The worker never waits.
+#[derive(Drop)]
+pub struct SharedCounts {
+    latest: Mutex<WorkerCounts>,
+}
+
+impl SharedCounts {
+    /// Nothing was counted.
+    pub fn new() -> SharedCounts {
+        SharedCounts {
+            latest: Mutex::new(WorkerCounts::NONE),
+        }
+    }
+
+    /// Puts down all that its worker has counted. Where somebody reads at this moment what stood there stays, until the next time.
+    pub fn store(&self, counts: &WorkerCounts) {
+        if let Some(mut latest) = self.latest.try_lock() {
+            *latest = *counts;
+        }
+    }
+
+    /// What its worker has counted.
+    pub fn load<R: Wait>(&self, rt: &R) -> WorkerCounts {
+        *self.latest.lock(rt)
+    }
+}
+
+/// The places of so many workers.
+pub fn shared_counts(alloc: Global, workers: usize) -> Result<Vec<SharedCounts>, AllocError>
+    ensures { IfOk result (λ all. length all.items ≡ workers) }
+{
+    let mut all = Vec::with_capacity(alloc, workers)?;
+    for worker in 0..workers {
+        let _ = worker;
+        all.push(SharedCounts::new())?;
+    }
+    Ok(all)
+}

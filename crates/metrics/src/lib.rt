@@ -1,0 +1,17 @@
+//! What a broker tells of itself while it runs: numbers in Prometheus' text format and a page that draws them, over HTTP/1.1.
+//!
+//! A worker puts what it has counted into its [`SharedCounts`]; a [`MetricsService`] adds them up and answers requests; a [`MetricsServer`] serves them.
+#![tactic(auto)]
+
+mod answering;
+mod counts;
+mod exposition;
+mod page;
+mod peer;
+mod server;
+mod service;
+
+pub use counts::{SharedCounts, WorkerCounts, shared_counts};
+pub use exposition::{Kind, Label, add_family, add_sample};
+pub use server::{MetricsServer, OpenError};
+pub use service::MetricsService;
