@@ -4,9 +4,12 @@ ghost use Rattle.std.specs.Io.KnownBytes.{IsAtEnd};
 ghost use Rattle.text_io.specs.declared.error.RunError.TheVariants.{Memory};
 ghost use Rattle.tcp_server.specs.Reporting.{AreReportsAt, HaveCapacity};
 
+use crate::beside::{BesideMetrics, Metrics};
+use crate::drain::Drain;
 use crate::listening::Awaited;
 use crate::outcome::{Reported, report_outcome};
 use crate::serving::ServingEnd;
+use crate::settings::ServeSettings;
 use crate::setup::SocketSetup;
 use crate::watching::Watching;
 use broker_groups::Broker;
@@ -25,21 +28,26 @@ use text_io::RunError;
 use threaded_broker::{Closers, OpenBroker, serve};
 use worker_pool::Closer;
 
-/// Serves the connections of a source until the input ends, and ends the broker.
+/// Serves the connections of a source until the input ends, drains, sets this flag, and ends the broker. Meanwhile metrics are told, where there are any.
 ///
 /// # Errors
 ///
 /// [`RunError::Memory`]: nothing is written of it.
 pub(crate) fn attend<
+    'x,
     B: Broker<Seen = Nobody> + Send + Sync,
     N: HistoryName + Send + Sync,
     R: Threads + Wait + Net + SystemClock + Sync,
     I: Read + Send,
 >(
-    rt: &R,
+    rt: &'x R,
     alloc: Global,
     broker: OpenBroker<'_, B, N>,
     groups: &Routes,
+    settings: ServeSettings,
+    ends: &'x AtomicBool,
+    drain: &'x Drain,
+    metrics: Option<Metrics<'_, R>>,
     setup: SocketSetup<'_, R>,
     source: Awaited<TcpSource>,
     closers: Closers<'_, B>,
@@ -52,14 +60,15 @@ pub(crate) fn attend<
     ensures read { IfOk result (λ reported. reported.end ≡ Ok ServingEnd.Ended → IsAtEnd (I.remaining input.new)) }
     ensures cause { IfErr result (λ error. error ≡ Memory) }
 {
-    let ends = AtomicBool::new(false);
     let mut watching = Watching {
         rt,
         stopper,
-        ends: &ends,
+        ends,
+        drain,
+        settings,
         is_read: false,
     };
-    let source = Until::new(source, &ends);
+    let source = Until::new(BesideMetrics { source, metrics }, ends);
     let Ok(outcome) = serve(
         rt,
         alloc,

@@ -1,17 +1,24 @@
 //! A broker on TCP: its workers, its listener, and its end.
 //!
-//! [`serve_at`] listens at an address and serves until its input ends; then it closes, and writes the report of each group whose share is bound.
+//! [`serve_at`] listens at an address and serves until its input ends; then it drains, where it is to do so, closes, and writes the report of each group whose share is bound.
 #![tactic(auto)]
 
 mod attending;
+mod beside;
+mod drain;
 mod elapsed;
+mod listeners;
 mod listening;
+mod metering;
 mod outcome;
 mod reporting;
 mod serving;
+mod settings;
 mod setup;
 mod socket_poller;
 mod watching;
 
+pub use listeners::{ListenAt, Listeners};
 pub use outcome::{Reported, report_outcome};
 pub use serving::{ServingEnd, serve_at, serve_with};
+pub use settings::ServeSettings;

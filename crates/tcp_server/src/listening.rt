@@ -11,10 +11,10 @@ use std::time::Duration;
 use tcp_edge::ReactorError;
 use transport::{Arrival, Source, Transport};
 
-/// For how many milliseconds a call waits at most.
+/// For how many milliseconds a call waits at most, unless it is told otherwise.
 const PATIENCE: u64 = 100;
 
-/// A source that waits by itself: where nothing came yet, a call waits for up to 100 milliseconds, and looks again.
+/// A source that waits by itself: where nothing came yet, a call waits for up to 100 milliseconds, or for as many as it was told, and looks again.
 ///
 /// Contracts see it as the source below.
 #[derive(Drop)]
@@ -22,6 +22,7 @@ pub struct Awaited<S> {
     source: S,
     poll: Poll,
     events: Events,
+    patience: u64,
 }
 
 impl<S> Model for Awaited<S> {
@@ -49,18 +50,24 @@ impl<S: MioSource + Drop> Awaited<S> {
             source,
             poll,
             events,
+            patience: PATIENCE,
         })
     }
 }
 
 impl<S> Awaited<S> {
+    /// A call waits for so many milliseconds at most from now on.
+    pub(crate) fn wait_at_most(&mut self, patience: u64)
+        ensures { self.new ≡ self.old }
+    {
+        self.patience = patience;
+    }
+
     /// Waits for a while, or for less where something may have come.
     fn pause(&mut self)
         ensures { self.new ≡ self.old }
     {
-        let _refused = self
-            .poll
-            .poll(&mut self.events, Some(Duration::from_millis(PATIENCE)));
+        let _refused = self.poll.poll(&mut self.events, Some(Duration::from_millis(self.patience)));
     }
 }
 

@@ -10,22 +10,27 @@ ghost use Rattle.gate_word.specs.Seats.{AreSeatsOf};
 ghost use Rattle.broker_groups.specs.Naming.{IsOfBroker};
 
 use crate::attending::attend;
+use crate::beside::Metrics;
+use crate::drain::Drain;
+use crate::listeners::{ListenAt, Listeners};
 use crate::listening::Awaited;
 use crate::outcome::Reported;
+use crate::settings::ServeSettings;
 use crate::setup::socket_setup;
 use broker_groups::{Broker, BrokerName, BrokerPlace, Opened, Witnessed};
 use call_history::HistoryName;
-use conn_rules::MaxInflight;
 use gate_word::{Gate, GateSeat};
 use group_queue::Nobody;
+use metrics::{MetricsServer, MetricsService, OpenError, shared_counts};
 use mqtt_topic::Routes;
 use shared_desk::OpenedDesk;
 use std::alloc::Global;
 use std::io::{Read, Write};
 use std::marker::Brand;
-use std::net::{Ipv4Addr, Net};
+use std::net::Net;
 use std::rt::Clock as SystemClock;
 use std::sync::Wait;
+use std::sync::atomic::AtomicBool;
 use std::thread::Threads;
 use tcp_edge::{ReactorError, TcpSource};
 use text_io::{RunError, write_all};
@@ -43,75 +48,67 @@ pub enum ServingEnd {
     NotAccepted,
 }
 
-/// Serves a broker at an address and port of this machine, which the system chooses where the port is 0, with so many workers. No client has more messages unacknowledged than `max_inflight`. Writes `listening PORT` on a
-/// line, serves until the input has ended, closes, and writes the lines of the reports of the groups whose shares are bound, in the order of their slots.
+/// Serves a broker at an address and port of this machine by these settings, with these groups from the start. Writes `listening PORT` on a
+/// line, serves until the input has ended, drains, where its settings say so, closes, and writes the lines of the reports of the groups whose shares are bound, in the order of their slots.
 ///
 /// # Errors
 ///
-/// [`RunError::Network`]: the address was not listened at, and nothing was written; or connections were not accepted any more: then the broker closed at once,
+/// [`RunError::Network`]: the address was not listened at, or not at the port of the metrics, and nothing was written; or connections were not accepted any more: then the broker closed at once,
 /// and all was written. [`RunError::ReadFailed`]: the input failed, and all was written. [`RunError::WriteFailed`]: a beginning was written.
 /// [`RunError::Unfinished`]: the end of a group was refused; [`RunError::Memory`]: there was no memory for the report of a group: then the lines of the
 /// others were written. [`RunError::Memory`]: an allocation failed before that, and at most the first line was written.
 pub fn serve_at<R: Threads + Wait + Net + SystemClock + Sync, I: Read + Send, O: Write>(
     rt: &R,
     alloc: Global,
-    capacity: usize,
+    settings: ServeSettings,
     groups: Routes,
-    workers: u8,
-    max_inflight: MaxInflight,
-    address: Ipv4Addr,
-    port: u16,
+    at: ListenAt,
     input: &mut I,
     output: &mut O,
 ) -> Result<(), RunError>
-    requires capacity { (1 ≤ capacity) × (capacity ≤ 65536) }
-    requires workers { (1 ≤ workers) × (workers ≤ 64) }
-    ensures written { IsServedAt port capacity workers max_inflight groups result (O.contents output.old) (O.contents output.new) }
+    requires capacity { (1 ≤ settings.capacity) × (settings.capacity ≤ 65536) }
+    requires workers { (1 ≤ settings.workers) × (settings.workers ≤ 64) }
+    ensures written { IsServedAt at.port settings.capacity settings.workers settings.max_inflight groups result (O.contents output.old) (O.contents output.new) }
     ensures read { IfOk result (λ _. IsAtEnd (I.remaining input.new)) }
 {
-    match TcpSource::open(rt, address, port) {
-        Ok(source) => serve_with(
-            rt,
-            alloc,
-            capacity,
-            groups,
-            workers,
-            max_inflight,
-            source,
-            input,
-            output,
-        ),
-        Err(_) => Err(RunError::Network),
-    }
+    let Ok(source) = TcpSource::open(rt, at.address, at.port) else {
+        return Err(RunError::Network);
+    };
+    let metrics = match at.open_metrics(rt, alloc) {
+        Ok(metrics) => metrics,
+        Err(OpenError::Memory) => return Err(RunError::Memory),
+        Err(OpenError::System) => return Err(RunError::Network),
+    };
+    let listeners = Listeners { source, metrics };
+    serve_with(rt, alloc, settings, groups, listeners, input, output)
 }
 
-/// Serves a broker over a listener, as [`serve_at`].
+/// Serves a broker over listeners that are open, as [`serve_at`].
 pub fn serve_with<R: Threads + Wait + Net + SystemClock + Sync, I: Read + Send, O: Write>(
     rt: &R,
     alloc: Global,
-    capacity: usize,
+    settings: ServeSettings,
     groups: Routes,
-    workers: u8,
-    max_inflight: MaxInflight,
-    source: TcpSource,
+    listeners: Listeners,
     input: &mut I,
     output: &mut O,
 ) -> Result<(), RunError>
-    requires capacity { (1 ≤ capacity) × (capacity ≤ 65536) }
-    requires workers { (1 ≤ workers) × (workers ≤ 64) }
-    ensures written { IsServed (listening_line source.port) capacity workers max_inflight groups result (O.contents output.old) (O.contents output.new) }
+    requires capacity { (1 ≤ settings.capacity) × (settings.capacity ≤ 65536) }
+    requires workers { (1 ≤ settings.workers) × (settings.workers ≤ 64) }
+    ensures written { IsServed (listening_line listeners.source.port) settings.capacity settings.workers settings.max_inflight groups result (O.contents output.old) (O.contents output.new) }
     ensures read { IfOk result (λ _. IsAtEnd (I.remaining input.new)) }
 {
+    let Listeners { source, metrics } = listeners;
     let port = source.port();
     let source = match Awaited::new(rt, alloc, source) {
         Ok(source) => source,
         Err(ReactorError::Memory) => return Err(RunError::Memory),
         Err(_) => return Err(RunError::Network),
     };
-    let Ok((gate, seats)) = Gate::open(alloc, usize::from(workers) + 3) else {
+    let Ok((gate, seats)) = Gate::open(alloc, usize::from(settings.workers) + 3) else {
         return Err(RunError::Memory);
     };
-    let Ok(opened) = Opened::open(alloc, &gate, capacity, workers) else {
+    let Ok(opened) = Opened::open(alloc, &gate, settings.capacity, settings.workers) else {
         return Err(RunError::Memory);
     };
     let line = format!(in alloc; "listening {port}\n");
@@ -122,10 +119,10 @@ pub fn serve_with<R: Threads + Wait + Net + SystemClock + Sync, I: Read + Send, 
             &gate,
             seats,
             opened,
-            workers,
-            max_inflight,
+            settings,
             &groups,
             source,
+            metrics,
             line.as_bytes(),
             input,
             output,
@@ -167,38 +164,27 @@ fn live<
     gate: &Gate,
     seats: Vec<GateSeat>,
     opened: Opened<'_>,
-    workers: u8,
-    max_inflight: MaxInflight,
+    settings: ServeSettings,
     groups: &Routes,
     source: Awaited<TcpSource>,
+    metrics: Option<MetricsServer>,
     line: &[u8],
     input: &mut I,
     output: &mut O,
 ) -> Result<Reported, RunError>
     requires gate { gate.now ≡ M.gate }
-    requires workers { (1 ≤ workers) × (workers ≤ 64) }
-    requires seats { AreSeatsOf gate.now seats.items × (length seats.items ≡ workers + 3) }
-    requires opened { IsOfBroker M.gate M.group workers opened }
+    requires workers { (1 ≤ settings.workers) × (settings.workers ≤ 64) }
+    requires seats { AreSeatsOf gate.now seats.items × (length seats.items ≡ settings.workers + 3) }
+    requires opened { IsOfBroker M.gate M.group settings.workers opened }
     requires capacity { HaveCapacity M.group (M.group 0).capacity }
-    ensures reported { IfOk result (λ reported. AreReportsAt reported.end (M.group 0).capacity workers max_inflight groups.now reported.text.items) }
+    ensures reported { IfOk result (λ reported. AreReportsAt reported.end (M.group 0).capacity settings.workers settings.max_inflight groups.now reported.text.items) }
     ensures written { IfOk result (λ reported. Appends (O.contents output.old) (O.contents output.new) line.now) }
     ensures read { IfOk result (λ reported. reported.end ≡ Ok ServingEnd.Ended → IsAtEnd (I.remaining input.new)) }
     ensures failed { IfErr result (λ error. EndsUnreported line.now error (O.contents output.old) (O.contents output.new)) }
 {
     match OpenedDesk::open(alloc) {
         Ok(desk) => live_with::<Witnessed<M, Nobody>, Brand, R, I, O>(
-            rt,
-            alloc,
-            gate,
-            seats,
-            opened,
-            desk,
-            workers,
-            max_inflight,
-            groups,
-            source,
-            line,
-            input,
+            rt, alloc, gate, seats, opened, desk, settings, groups, source, metrics, line, input,
             output,
         ),
         Err(_) => {
@@ -210,40 +196,48 @@ fn live<
 
 /// Names a broker's groups and its desk, serves, and ends it, as [`live`].
 fn live_with<
+    'x,
     B: Broker<Seen = Nobody> + Send + Sync,
     N: HistoryName + Send + Sync,
     R: Threads + Wait + Net + SystemClock + Sync,
     I: Read + Send,
     O: Write,
 >(
-    rt: &R,
+    rt: &'x R,
     alloc: Global,
     gate: &Gate,
     seats: Vec<GateSeat>,
     opened: Opened<'_>,
     desk: OpenedDesk<BrokerPlace<B>>,
-    workers: u8,
-    max_inflight: MaxInflight,
-    groups: &Routes,
+    settings: ServeSettings,
+    groups: &'x Routes,
     source: Awaited<TcpSource>,
+    metrics: Option<MetricsServer>,
     line: &[u8],
     input: &mut I,
     output: &mut O,
 ) -> Result<Reported, RunError>
     requires gate { gate.now ≡ B.gate }
     requires desk { desk ≡ N.history }
-    requires workers { (1 ≤ workers) × (workers ≤ 64) }
-    requires seats { AreSeatsOf gate.now seats.items × (length seats.items ≡ workers + 3) }
-    requires opened { IsOfBroker B.gate B.group workers opened }
+    requires workers { (1 ≤ settings.workers) × (settings.workers ≤ 64) }
+    requires seats { AreSeatsOf gate.now seats.items × (length seats.items ≡ settings.workers + 3) }
+    requires opened { IsOfBroker B.gate B.group settings.workers opened }
     requires capacity { HaveCapacity B.group (B.group 0).capacity }
-    ensures reported { IfOk result (λ reported. AreReportsAt reported.end (B.group 0).capacity workers max_inflight groups.now reported.text.items) }
+    ensures reported { IfOk result (λ reported. AreReportsAt reported.end (B.group 0).capacity settings.workers settings.max_inflight groups.now reported.text.items) }
     ensures written { IfOk result (λ reported. Appends (O.contents output.old) (O.contents output.new) line.now) }
     ensures read { IfOk result (λ reported. reported.end ≡ Ok ServingEnd.Ended → IsAtEnd (I.remaining input.new)) }
     ensures failed { IfErr result (λ error. EndsUnreported line.now error (O.contents output.old) (O.contents output.new)) }
 {
     let mut seats = seats;
-    let Ok(broker) = OpenBroker::<B, N>::open(rt, alloc, gate, &mut seats, opened, desk, workers)
-    else {
+    let Ok(broker) = OpenBroker::<B, N>::open(
+        rt,
+        alloc,
+        gate,
+        &mut seats,
+        opened,
+        desk,
+        settings.workers,
+    ) else {
         return Err(RunError::Memory);
     };
     let closers = Closers {
@@ -251,14 +245,33 @@ fn live_with<
         ending: Closer::take(gate, &mut seats),
     };
     let stopper = Closer::take(gate, &mut seats);
-    let count = usize::from(workers);
-    let Some(setup) = socket_setup(rt, alloc, count, max_inflight) else {
+    let ends = AtomicBool::new(false);
+    let drain = Drain::new();
+    let count = usize::from(settings.workers);
+    let told = if metrics.is_some() { count } else { 0 };
+    let Ok(places) = shared_counts(alloc, told) else {
         broker.abandon();
         return Err(RunError::Memory);
     };
+    let Some(setup) = socket_setup(rt, alloc, count, settings.max_inflight, &drain, &places) else {
+        broker.abandon();
+        return Err(RunError::Memory);
+    };
+    let service = MetricsService {
+        rt,
+        alloc,
+        workers: &places,
+        shares: groups.shares(),
+        capacity: settings.capacity as u64,
+    };
+    let metrics = match metrics {
+        Some(server) => Some(Metrics { server, service }),
+        None => None,
+    };
     match write_all(output, line) {
         Ok(()) => attend(
-            rt, alloc, broker, groups, setup, source, closers, stopper, input,
+            rt, alloc, broker, groups, settings, &ends, &drain, metrics, setup, source, closers,
+            stopper, input,
         ),
         Err(error) => {
             broker.abandon();

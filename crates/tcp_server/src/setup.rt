@@ -1,10 +1,13 @@
 //! Where the workers of a broker wait.
 ghost use Rattle.std.specs.Prelude.{◌≡◌, length, IfSome};
 
+use crate::drain::{Drain, DrainPart};
 use crate::elapsed::Elapsed;
+use crate::metering::MetricsPart;
 use crate::socket_poller::SocketPoller;
 use broker_worker::UnusedPoller;
 use conn_rules::MaxInflight;
+use metrics::SharedCounts;
 use mio::net::TcpStream;
 use std::alloc::Global;
 use std::net::Net;
@@ -16,12 +19,14 @@ use worker_pool::PoolSetup;
 /// A reactor with a clock and an alarm for each worker.
 pub(crate) type SocketSetup<'a, R> = PoolSetup<Socket<TcpStream>, SocketPoller<'a, R>>;
 
-/// What so many workers need, whose clocks begin now. `None` where an allocation fails, or the system refuses.
+/// What so many workers need, whose clocks begin now, and who drain together. Each puts what it counts into the place of its number, where there is one. `None` where an allocation fails, or the system refuses.
 pub(crate) fn socket_setup<'a, R: Net + SystemClock>(
     rt: &'a R,
     alloc: Global,
     count: usize,
     max_inflight: MaxInflight,
+    drain: &'a Drain,
+    places: &'a [SharedCounts],
 ) -> Option<SocketSetup<'a, R>>
     ensures count { IfSome result (λ setup. length setup.unused_pollers.items ≡ count) }
     ensures limit { IfSome result (λ setup. setup.max_inflight ≡ max_inflight) }
@@ -30,9 +35,13 @@ pub(crate) fn socket_setup<'a, R: Net + SystemClock>(
     let mut unused_pollers = Vec::with_capacity(alloc, count).ok()?;
     let mut alarms = Vec::with_capacity(alloc, count).ok()?;
     'reactors: for worker in 0..count {
-        let _ = worker;
         let (reactor, alarm) = Reactor::open(rt, alloc).ok()?;
-        let poller = SocketPoller::new(reactor, Elapsed::since(rt, start));
+        let poller = SocketPoller::new(
+            reactor,
+            Elapsed::since(rt, start),
+            DrainPart::of(drain),
+            MetricsPart::of(places.get(worker)),
+        );
         unused_pollers.push(UnusedPoller::new(poller)).ok()?;
         alarms.push(alarm).ok()?;
     }
