@@ -88,10 +88,12 @@ one_service rows a b h i =
     let port = one_number (codes "port") 0 65535 rows a.port b.port h.port i.port in
     let workers = one_number (codes "workers") 1 64 rows a.workers b.workers h.workers i.workers in
     let until = one_until rows a b h i in
+    let drain = one_number (codes "drain") 0 86400 rows a.drain b.drain h.drain i.drain in
+    let metrics = one_number (codes "metrics") 0 65535 rows a.metrics b.metrics h.metrics i.metrics in
     let capacity = one_number (codes "capacity") 1 65536 rows a.setup.capacity b.setup.capacity h.capacity i.capacity in
     let max_inflight = one_number (codes "max-inflight") 1 256 rows a.setup.max_inflight b.setup.max_inflight h.max_inflight i.max_inflight in
     let groups = each_one (pairs_in rows) [] a.setup.groups b.setup.groups h.groups i.groups in
-    (λ i. record { address = address i; port = port i; workers = workers i; until = until i; setup = made (capacity i) (max_inflight i) (groups i); few = is_prop→PathP (λ j. IsFew (workers j)) (λ j. ×_prop le_prop le_prop) a.few b.few i })
+    (λ i. record { address = address i; port = port i; workers = workers i; until = until i; drain = drain i; metrics = metrics i; setup = made (capacity i) (max_inflight i) (groups i); few = is_prop→PathP (λ j. IsFew (workers j)) (λ j. ×_prop le_prop le_prop) a.few b.few i })
 
 one_reading : (words : List Text) (a b : Text) (x y : List Row) → AreReadAs words a x → AreReadAs words b y → (a ≡ b) × (y ≡ x)
 one_reading words a b x y h i = same_pair (subcommand_of command_line words) a b x y h.1 i.1

@@ -7,7 +7,7 @@ use Rattle.clap.specs.declared.error.kind.ErrorKind.{ErrorKind}
 use Rattle.clap.specs.declared.error.kind.ErrorKind.TheVariants.{ValueValidation}
 use Rattle.conn_rules.specs.declared.setup.Setup.{Setup}
 use Rattle.arguments.specs.Groups.{AddsEach, RefusesOne}
-use Rattle.arguments.specs.Options.{address_option, capacity_option, group_option, max_inflight_option, port_option, until_option, workers_option, HasNumber, HaveCapacity, HaveMaxInflight, pairs_in}
+use Rattle.arguments.specs.Options.{address_option, capacity_option, drain_option, group_option, max_inflight_option, metrics_option, port_option, until_option, workers_option, HasNumber, HaveCapacity, HaveMaxInflight, pairs_in}
 use Rattle.arguments.specs.declared.command.Request.{Request}
 use Rattle.arguments.specs.declared.command.Request.TheVariants.{Solo, Drive, Serve}
 use Rattle.arguments.specs.declared.groups.Refusal.{Refusal}
@@ -21,9 +21,10 @@ use Rattle.arguments.specs.declared.service.ServeUntil.TheVariants.{Stdin, Kille
 abbrev pub command_named : Text → App
 command_named name = with_rule (with_rule (with_rule (new_app name) capacity_option) max_inflight_option) group_option
 
--- the four options that `serve` has of its own
+-- the six options that `serve` has of its own
 abbrev pub serve_alone : App
-serve_alone = with_rule (with_rule (with_rule (with_rule (new_app (codes "serve")) port_option) address_option) workers_option) until_option
+serve_alone =
+    with_rule (with_rule (with_rule (with_rule (with_rule (with_rule (new_app (codes "serve")) port_option) address_option) workers_option) until_option) drain_option) metrics_option
 
 -- `serve`, with these before them
 abbrev pub serve_command : App
@@ -57,6 +58,8 @@ pub record IsServiceBy (rows : List Row) (service : ServeOptions) : Type 0 where
   pub port : HasNumber (codes "port") 0 65535 rows service.port
   pub workers : HasNumber (codes "workers") 1 64 rows service.workers
   pub until : first_of (codes "until") rows ≡ Some (word_of service.until)
+  pub drain : HasNumber (codes "drain") 0 86400 rows service.drain
+  pub metrics : HasNumber (codes "metrics") 0 65535 rows service.metrics
   pub capacity : HaveCapacity rows service.setup.capacity
   pub max_inflight : HaveMaxInflight rows service.setup.max_inflight
   pub groups : AddsEach [] (pairs_in rows) service.setup.groups

@@ -67,6 +67,24 @@ until_option = record (new_rule (codes "until")) {
   defaults = codes "stdin" ∷ [];
 }
 
+-- `--drain SECONDS`, at most once: a number from 0 to 86400, and 0 where it is not given
+abbrev pub drain_option : Rule
+drain_option = record (new_rule (codes "drain")) {
+  long = Some (codes "drain");
+  value_names = 1;
+  parser = Some (Signed (pos 0) (pos 86400));
+  defaults = codes "0" ∷ [];
+}
+
+-- `--metrics PORT`, at most once: a number from 0 to 65535, and 0 where it is not given
+abbrev pub metrics_option : Rule
+metrics_option = record (new_rule (codes "metrics")) {
+  long = Some (codes "metrics");
+  value_names = 1;
+  parser = Some (Signed (pos 0) (pos 65535));
+  defaults = codes "0" ∷ [];
+}
+
 -- ---- the values that they have
 
 -- a text spells a number in decimal digits, after a plus or none

@@ -4,7 +4,9 @@ ghost use Rattle.std.specs.String.{string_bytes};
 ghost use Rattle.clap.specs.Words.{app_of, kind_of};
 ghost use Rattle.arguments.specs.CommandLine.{command_line, command_named, serve_command, AskFor, SpellNoRequest};
 
-use crate::options::{address, capacity, group, max_inflight, port, until, workers};
+use crate::options::{
+    address, capacity, drain, group, max_inflight, metrics, port, until, workers,
+};
 use crate::service::ServeOptions;
 use crate::serving::service_of;
 use crate::setup::setup_of;
@@ -103,7 +105,7 @@ pub(crate) fn command_named<'a>(
         .arg(group(alloc))
 }
 
-/// `serve` and its seven options.
+/// `serve` and its nine options.
 pub(crate) fn serve_command<'a>(alloc: Global) -> Result<Command<'a>, AllocError>
     ensures { IfOk result (λ command. app_of command ≡ serve_command) }
 {
@@ -115,6 +117,8 @@ pub(crate) fn serve_command<'a>(alloc: Global) -> Result<Command<'a>, AllocError
         .arg(address(alloc))?
         .arg(workers(alloc))?
         .arg(until(alloc))?
+        .arg(drain(alloc))?
+        .arg(metrics(alloc))?
         .arg(capacity(alloc))?
         .arg(max_inflight(alloc))?
         .arg(group(alloc))

@@ -1,7 +1,7 @@
 //! The options of the commands.
 ghost use Rattle.std.specs.Prelude.{◌≡◌};
 ghost use Rattle.clap.specs.Words.{rule_of};
-ghost use Rattle.arguments.specs.Options.{address_option, capacity_option, group_option, max_inflight_option, port_option, until_option, workers_option};
+ghost use Rattle.arguments.specs.Options.{address_option, capacity_option, drain_option, group_option, max_inflight_option, metrics_option, port_option, until_option, workers_option};
 
 use clap::{Arg, ArgAction, value_parser};
 use std::alloc::Global;
@@ -90,5 +90,33 @@ pub(crate) fn until<'a>(alloc: Global) -> Arg<'a>
         .default_value("stdin")
         .help(
             "stdin: serve until standard input has ended; killed: read nothing there, and serve until the process is killed",
+        )
+}
+
+/// `--drain SECONDS`.
+pub(crate) fn drain<'a>(alloc: Global) -> Arg<'a>
+    ensures { rule_of result ≡ drain_option }
+{
+    Arg::new(alloc, "drain")
+        .long("drain")
+        .value_name("SECONDS")
+        .value_parser(value_parser!(u32).range(0..=86_400))
+        .default_value("0")
+        .help(
+            "For how many seconds at most, once standard input has ended, no new job is accepted, and those that were accepted are still handed out, 0 to 86400",
+        )
+}
+
+/// `--metrics PORT`.
+pub(crate) fn metrics<'a>(alloc: Global) -> Arg<'a>
+    ensures { rule_of result ≡ metrics_option }
+{
+    Arg::new(alloc, "metrics")
+        .long("metrics")
+        .value_name("PORT")
+        .value_parser(value_parser!(u32).range(0..=65_535))
+        .default_value("0")
+        .help(
+            "The port of the same address at which HTTP gets metrics, as text for Prometheus at /metrics and as a page at /, 0 to 65535; at 0 there are none",
         )
 }

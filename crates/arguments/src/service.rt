@@ -24,6 +24,10 @@ pub struct ServeOptions {
     pub workers: u8,
     /// Until when it serves.
     pub until: ServeUntil,
+    /// For how many seconds at most, once its input has ended, it still hands out what was accepted, 0 to 86400; it accepts nothing meanwhile.
+    pub drain: u32,
+    /// The port of its metrics; at 0 there are none.
+    pub metrics: u16,
     /// What its groups begin with.
     pub setup: Setup,
     ghost few: { (1 ≤ workers) × (workers ≤ 64) },

@@ -20,6 +20,8 @@ use std::net::Ipv4Addr;
 struct Numbers {
     port: u16,
     workers: u8,
+    drain: u32,
+    metrics: u16,
     capacity: QueueCapacity,
     max_inflight: MaxInflight,
 }
@@ -49,6 +51,8 @@ pub(crate) fn service_of(alloc: Global, options: &ArgMatches) -> Result<ServeOpt
             port: numbers.port,
             workers: numbers.workers,
             until,
+            drain: numbers.drain,
+            metrics: numbers.metrics,
             setup: Setup {
                 capacity: numbers.capacity,
                 max_inflight: numbers.max_inflight,
@@ -85,16 +89,22 @@ fn numbers_of(options: &ArgMatches) -> Option<Numbers>
         ((service : AnyService) → ¬ IsServiceBy (rows_of (found_of options.now)) service)
         (λ numbers. HasNumber (codes "port") 0 65535 (rows_of (found_of options.now)) numbers.port
         × HasNumber (codes "workers") 1 64 (rows_of (found_of options.now)) numbers.workers
+        × HasNumber (codes "drain") 0 86400 (rows_of (found_of options.now)) numbers.drain
+        × HasNumber (codes "metrics") 0 65535 (rows_of (found_of options.now)) numbers.metrics
         × HaveCapacity (rows_of (found_of options.now)) numbers.capacity
         × HaveMaxInflight (rows_of (found_of options.now)) numbers.max_inflight) }
 {
     let port = number(options, "port", 0, 65_535)?;
     let workers = number(options, "workers", 1, 64)?;
+    let drain = number(options, "drain", 0, 86_400)?;
+    let metrics = number(options, "metrics", 0, 65_535)?;
     let messages = number(options, "capacity", 1, 65_536)?;
     let packets = number(options, "max-inflight", 1, 256)?;
     Some(Numbers {
         port: port as u16,
         workers: workers as u8,
+        drain,
+        metrics: metrics as u16,
         capacity: capacity_of(messages),
         max_inflight: limit_of(packets),
     })

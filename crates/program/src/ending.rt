@@ -15,7 +15,7 @@ use std::net::Net;
 use std::rt::Clock;
 use std::sync::Wait;
 use std::thread::Threads;
-use tcp_server::serve_at;
+use tcp_server::{ListenAt, ServeSettings, serve_at};
 use text_io::{RunError, tell, write_all};
 
 /// The status that the program ends with where its words are wrong.
@@ -142,20 +142,22 @@ fn serve_reading<H: Threads + Wait + Net + Clock + Sync, R: Read + Send, W: Writ
         port,
         workers,
         until: _,
+        drain,
+        metrics,
         setup,
     } = service;
-    serve_at(
-        rt,
-        alloc,
-        setup.capacity.get() as usize,
-        setup.groups,
+    let settings = ServeSettings {
+        capacity: setup.capacity.get() as usize,
         workers,
-        setup.max_inflight,
+        max_inflight: setup.max_inflight,
+        drain,
+    };
+    let at = ListenAt {
         address,
         port,
-        reader,
-        output,
-    )
+        metrics,
+    };
+    serve_at(rt, alloc, settings, setup.groups, at, reader, output)
 }
 
 /// How the program ends where what it did came to an end so: an error is told.

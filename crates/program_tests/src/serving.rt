@@ -1,56 +1,70 @@
 //! The words of `serve`, and what they ask for.
 use crate::asserting::assert_text;
 use crate::words::asked;
+use std::alloc::Global;
+use std::process::Abort;
 use std::test::Fail;
+
+/// Each line asks for what stands beside it.
+fn assert_asked(rt: &impl Abort, alloc: Global, rows: &[(&str, &str)]) -> Result<(), Fail> {
+    for (line, expected) in rows {
+        let asked = asked(alloc, line)?;
+        assert_text(rt, asked.as_str(), *expected);
+    }
+    Ok(())
+}
 
 #[test]
 fn what_words_of_serve_ask_for(rt: HostRuntime) -> Result<(), Fail> {
     let rows = [
         (
             "share_broker serve --port 1883",
-            "serve 127.0.0.1:1883 8 Stdin 1024 256",
+            "serve 127.0.0.1:1883 8 Stdin 0 0 1024 256",
         ),
         (
             "share_broker serve --port 0 --workers 1",
-            "serve 127.0.0.1:0 1 Stdin 1024 256",
+            "serve 127.0.0.1:0 1 Stdin 0 0 1024 256",
         ),
         (
             "share_broker serve --port 65535 --address 0.0.0.0 --workers 64 --capacity 65536 --group g:job --group h:#",
-            "serve 0.0.0.0:65535 64 Stdin 65536 256 $share/g/job $share/h/#",
+            "serve 0.0.0.0:65535 64 Stdin 0 0 65536 256 $share/g/job $share/h/#",
         ),
         (
             "share_broker serve --address=192.168.1.255 --port=7 --capacity=1",
-            "serve 192.168.1.255:7 8 Stdin 1 256",
+            "serve 192.168.1.255:7 8 Stdin 0 0 1 256",
         ),
         (
             "share_broker serve --port 1 --max-inflight 256",
-            "serve 127.0.0.1:1 8 Stdin 1024 256",
+            "serve 127.0.0.1:1 8 Stdin 0 0 1024 256",
         ),
         (
             "share_broker serve --max-inflight=2 --port 1 --group g:job",
-            "serve 127.0.0.1:1 8 Stdin 1024 2 $share/g/job",
+            "serve 127.0.0.1:1 8 Stdin 0 0 1024 2 $share/g/job",
         ),
         (
             "share_broker serve --port 1 --until stdin",
-            "serve 127.0.0.1:1 8 Stdin 1024 256",
+            "serve 127.0.0.1:1 8 Stdin 0 0 1024 256",
         ),
         (
             "share_broker serve --until=killed --port 1 --workers 2 --group g:job",
-            "serve 127.0.0.1:1 2 Killed 1024 256 $share/g/job",
+            "serve 127.0.0.1:1 2 Killed 0 0 1024 256 $share/g/job",
         ),
-        // faults
-        ("share_broker serve", "2"),
-        ("share_broker serve --port", "2"),
-        ("share_broker serve --port 65536", "2"),
-        ("share_broker serve --port -1", "2"),
-        ("share_broker serve --port one", "2"),
-        ("share_broker serve --port 1 --port 1", "2"),
-        ("share_broker serve --port 1 --workers 0", "2"),
-        ("share_broker serve --port 1 --workers 65", "2"),
-        ("share_broker serve --port 1 --capacity 0", "2"),
-        ("share_broker serve --port 1 --capacity 65537", "2"),
-        ("share_broker serve --port 1 --max-inflight 0", "2"),
-        ("share_broker serve --port 1 --max-inflight 257", "2"),
+        (
+            "share_broker serve --port 1 --drain 86400",
+            "serve 127.0.0.1:1 8 Stdin 86400 0 1024 256",
+        ),
+        (
+            "share_broker serve --drain=60 --port 1 --until killed --group g:job",
+            "serve 127.0.0.1:1 8 Killed 60 0 1024 256 $share/g/job",
+        ),
+        (
+            "share_broker serve --port 1 --metrics 65535",
+            "serve 127.0.0.1:1 8 Stdin 0 65535 1024 256",
+        ),
+        (
+            "share_broker serve --metrics=9100 --port 1 --drain 60 --group g:job",
+            "serve 127.0.0.1:1 8 Stdin 60 9100 1024 256 $share/g/job",
+        ),
         ("share_broker serve --port 1 --address localhost", "2"),
         ("share_broker serve --port 1 --address 1.2.3", "2"),
         ("share_broker serve --port 1 --address 1.2.3.256", "2"),
@@ -73,9 +87,36 @@ fn what_words_of_serve_ask_for(rt: HostRuntime) -> Result<(), Fail> {
         ("share_broker serve -h", "0"),
         ("share_broker help serve", "0"),
     ];
-    for (line, expected) in rows.iter() {
-        let asked = asked(rt.alloc(), line)?;
-        assert_text(&rt, asked.as_str(), *expected);
-    }
-    Ok(())
+    assert_asked(&rt, rt.alloc(), &rows)
+}
+
+#[test]
+fn faults_of_numbers(rt: HostRuntime) -> Result<(), Fail> {
+    let rows = [
+        ("share_broker serve", "2"),
+        ("share_broker serve --port", "2"),
+        ("share_broker serve --port 65536", "2"),
+        ("share_broker serve --port -1", "2"),
+        ("share_broker serve --port one", "2"),
+        ("share_broker serve --port 1 --port 1", "2"),
+        ("share_broker serve --port 1 --workers 0", "2"),
+        ("share_broker serve --port 1 --workers 65", "2"),
+        ("share_broker serve --port 1 --capacity 0", "2"),
+        ("share_broker serve --port 1 --capacity 65537", "2"),
+        ("share_broker serve --port 1 --max-inflight 0", "2"),
+        ("share_broker serve --port 1 --max-inflight 257", "2"),
+        ("share_broker serve --port 1 --drain", "2"),
+        ("share_broker serve --port 1 --drain -1", "2"),
+        ("share_broker serve --port 1 --drain 86401", "2"),
+        ("share_broker serve --port 1 --drain 1m", "2"),
+        ("share_broker serve --port 1 --drain 1 --drain 1", "2"),
+        ("share_broker drive --drain 1", "2"),
+        ("share_broker serve --port 1 --metrics", "2"),
+        ("share_broker serve --port 1 --metrics -1", "2"),
+        ("share_broker serve --port 1 --metrics 65536", "2"),
+        ("share_broker serve --port 1 --metrics localhost:1", "2"),
+        ("share_broker serve --port 1 --metrics 1 --metrics 1", "2"),
+        ("share_broker drive --metrics 1", "2"),
+    ];
+    assert_asked(&rt, rt.alloc(), &rows)
 }

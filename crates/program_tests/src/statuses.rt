@@ -124,6 +124,9 @@ fn texts_are_shown(rt: HostRuntime) -> Result<(), Fail> {
         ("share_broker serve -h", "1 to 64 [default: 8]"),
         ("share_broker serve --help", "--until <WHEN>"),
         ("share_broker help serve", "[default: stdin]"),
+        ("share_broker serve --help", "--drain <SECONDS>"),
+        ("share_broker help serve", "0 to 86400 [default: 0]"),
+        ("share_broker serve --help", "--metrics <PORT>"),
         ("share_broker drive --help", "1 to 65536 [default: 1024]"),
         ("share_broker solo --help", "1 to 256 [default: 256]"),
     ];
@@ -162,6 +165,14 @@ fn wrong_words(rt: HostRuntime) -> Result<(), Fail> {
             "share_broker serve --port 0 --until stopped",
             "--until is stdin or killed",
         ),
+        (
+            "share_broker serve --port 0 --drain 86401",
+            "invalid value '86401'",
+        ),
+        (
+            "share_broker serve --port 0 --metrics 65536",
+            "invalid value '65536'",
+        ),
         ("share_broker solo --capacity 0", "invalid value '0'"),
     ];
     for (line, text) in rows.iter() {
@@ -176,17 +187,22 @@ fn wrong_words(rt: HostRuntime) -> Result<(), Fail> {
     Ok(())
 }
 
-/// A broker whose input has ended closes at once, and has written the port that it listened at and the report of its group.
+/// A broker whose input has ended and whose messages are all settled closes at once, and has written the port that it listened at and the report of its group.
 #[test]
 fn serving_ends(rt: HostRuntime) -> Result<(), Fail> {
-    let line = "share_broker serve --port 0 --workers 1 --group g:job";
-    let ended = ran(&rt, rt.alloc(), line, &mut &b""[..])?;
-    assert_same(&rt, &ended.status, &0);
-    assert!(rt; ended.output.starts_with(b"listening "));
+    let lines = [
+        "share_broker serve --port 0 --workers 1 --group g:job",
+        "share_broker serve --port 0 --workers 1 --group g:job --drain 86400",
+    ];
     let report =
         "\n$share/g/job accepted 0 acknowledged 0 refused 0 held 0 queued 0 returned 0 discarded 0\n";
-    assert!(rt; has(&ended.output, report));
-    assert_same(&rt, &ended.errors.len(), &0);
+    for line in lines.iter() {
+        let ended = ran(&rt, rt.alloc(), line, &mut &b""[..])?;
+        assert_same_at(&rt, &ended.status, &0, line);
+        assert_same_at(&rt, &ended.output.starts_with(b"listening "), &true, line);
+        assert_same_at(&rt, &has(&ended.output, report), &true, line);
+        assert_same_at(&rt, &ended.errors.len(), &0, line);
+    }
     Ok(())
 }
 

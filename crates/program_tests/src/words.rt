@@ -14,7 +14,7 @@ pub(crate) fn words_of(alloc: Global, line: &str) -> Result<Vec<String>, AllocEr
     Ok(words)
 }
 
-/// What a line asks for: the command, and of `serve` the address, the port, the workers and until when; the capacity, the limit of unacknowledged messages and the
+/// What a line asks for: the command, and of `serve` the address, the port, the workers, until when, the time to drain and the port of metrics; the capacity, the limit of unacknowledged messages and the
 /// shares; or the status of its fault.
 pub(crate) fn asked(alloc: Global, line: &str) -> Result<String, AllocError> {
     let words = words_of(alloc, line)?;
@@ -23,8 +23,13 @@ pub(crate) fn asked(alloc: Global, line: &str) -> Result<String, AllocError> {
         Ok(Request::Drive(setup)) => told(alloc, "drive", &setup),
         Ok(Request::Serve(service)) => {
             let command = format!(in alloc;
-                "serve {}:{} {} {:?}",
-                service.address, service.port, service.workers, service.until
+                "serve {}:{} {} {:?} {} {}",
+                service.address,
+                service.port,
+                service.workers,
+                service.until,
+                service.drain,
+                service.metrics
             )?;
             told(alloc, command.as_str(), &service.setup)
         }

@@ -12,7 +12,9 @@ returns c =
     let address = c.in_ok-arg-2.ensures.shape (simple_own c.address.result (ap (λ (r : Rule). r.is_simple) c.address.ensures)) ∙ ap₂ with_rule port c.address.ensures in
     let workers = c.in_ok-arg-3.ensures.shape (simple_own c.workers.result (ap (λ (r : Rule). r.is_simple) c.workers.ensures)) ∙ ap₂ with_rule address c.workers.ensures in
     let until = c.in_ok-arg-4.ensures.shape (simple_own c.until.result (ap (λ (r : Rule). r.is_simple) c.until.ensures)) ∙ ap₂ with_rule workers c.until.ensures in
-    let capacity = c.in_ok-arg-5.ensures.shape (simple_own c.capacity.result (ap (λ (r : Rule). r.is_simple) c.capacity.ensures)) ∙ ap₂ with_rule until c.capacity.ensures in
-    let max_inflight = c.in_ok-arg-6.ensures.shape (simple_own c.max_inflight.result (ap (λ (r : Rule). r.is_simple) c.max_inflight.ensures)) ∙ ap₂ with_rule capacity c.max_inflight.ensures in
+    let drain = c.in_ok-arg-5.ensures.shape (simple_own c.drain.result (ap (λ (r : Rule). r.is_simple) c.drain.ensures)) ∙ ap₂ with_rule until c.drain.ensures in
+    let metrics = c.in_ok-arg-6.ensures.shape (simple_own c.metrics.result (ap (λ (r : Rule). r.is_simple) c.metrics.ensures)) ∙ ap₂ with_rule drain c.metrics.ensures in
+    let capacity = c.in_ok-arg-7.ensures.shape (simple_own c.capacity.result (ap (λ (r : Rule). r.is_simple) c.capacity.ensures)) ∙ ap₂ with_rule metrics c.capacity.ensures in
+    let max_inflight = c.in_ok-arg-8.ensures.shape (simple_own c.max_inflight.result (ap (λ (r : Rule). r.is_simple) c.max_inflight.ensures)) ∙ ap₂ with_rule capacity c.max_inflight.ensures in
     let own = simple_own c.group.result (ap (λ (r : Rule). r.is_simple) c.group.ensures) in
-    IfOk-weaker c.arg-7.result _ _ (λ command h. h.shape own ∙ ap₂ with_rule max_inflight c.group.ensures) c.arg-7.ensures
+    IfOk-weaker c.arg-9.result _ _ (λ command h. h.shape own ∙ ap₂ with_rule max_inflight c.group.ensures) c.arg-9.ensures

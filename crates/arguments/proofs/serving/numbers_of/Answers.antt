@@ -9,6 +9,8 @@ returns c =
     let rows = rows_of (found_of c.args.options.now) in (
       c.in_ok-port.ensures,
       c.in_ok-workers.ensures,
+      c.in_ok-drain.ensures,
+      c.in_ok-metrics.ensures,
       subst (HaveCapacity rows) (sym c.capacity_of.ensures) c.in_ok-messages.ensures,
       subst (HaveMaxInflight rows) (sym c.limit_of.ensures) c.in_ok-packets.ensures,
     )
@@ -18,6 +20,12 @@ returns-in_err-port c = rw c.from_residual.ensures (λ service by. c.in_err-port
 
 pub returns-in_err-workers : goal.returns-in_err-workers
 returns-in_err-workers c = rw c.from_residual-in_err-workers.ensures (λ service by. c.in_err-workers.ensures service.workers by.workers)
+
+pub returns-in_err-drain : goal.returns-in_err-drain
+returns-in_err-drain c = rw c.from_residual-in_err-drain.ensures (λ service by. c.in_err-drain.ensures service.drain by.drain)
+
+pub returns-in_err-metrics : goal.returns-in_err-metrics
+returns-in_err-metrics c = rw c.from_residual-in_err-metrics.ensures (λ service by. c.in_err-metrics.ensures service.metrics by.metrics)
 
 pub returns-in_err-messages : goal.returns-in_err-messages
 returns-in_err-messages c = rw c.from_residual-in_err-messages.ensures (λ service by. c.in_err-messages.ensures service.setup.capacity by.capacity)

@@ -28,8 +28,10 @@ returns-in-Ok-clause-ok c =
       port = c.in-Some-numbers_of.ensures.0;
       workers = c.in-Some-numbers_of.ensures.1;
       until = c.in-Some-until_of.ensures;
-      capacity = c.in-Some-numbers_of.ensures.2;
-      max_inflight = c.in-Some-numbers_of.ensures.3;
+      drain = c.in-Some-numbers_of.ensures.2;
+      metrics = c.in-Some-numbers_of.ensures.3;
+      capacity = c.in-Some-numbers_of.ensures.4;
+      max_inflight = c.in-Some-numbers_of.ensures.5;
       groups = subst (λ texts. AddsEach [] texts c.in-Ok.groups) pairs all;
     }
 
