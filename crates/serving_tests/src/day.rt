@@ -13,7 +13,7 @@ use std::sync::atomic::{AtomicBool, Ordering};
 use std::thread::Threads;
 use std::time::Duration;
 use std::{io, thread};
-use tcp_server::serve_at;
+use tcp_server::{ListenAt, ServeSettings, serve_at};
 use text_io::RunError;
 
 /// For how many milliseconds a read waits before it looks again, and how often it looks at most.
@@ -53,10 +53,29 @@ pub(crate) struct Counts {
     pub(crate) discardable: u64,
 }
 
+/// Where a broker listens, how many workers it has, and for how many seconds it drains at most.
+#[derive(Clone, Copy)]
+pub(crate) struct Listener {
+    pub(crate) port: u16,
+    pub(crate) workers: u8,
+    pub(crate) drain: u32,
+}
+
+impl Listener {
+    /// One with so many workers, which does not drain.
+    pub(crate) fn at(port: u16, workers: u8) -> Listener {
+        Listener {
+            port,
+            workers,
+            drain: 0,
+        }
+    }
+}
+
 /// What clients do.
 pub(crate) trait Day: Sync {
-    /// The port that the broker listens at, and how many workers it has.
-    fn broker(&self) -> (u16, u8);
+    /// Where the broker listens.
+    fn broker(&self) -> Listener;
 
     /// Does it; the broker closes once the flag is set, or this returns. What they saw.
     fn pass<R: Net<Listener = TcpListener, Stream = TcpStream> + Clock>(
@@ -106,22 +125,28 @@ fn pass<R: Net<Listener = TcpListener, Stream = TcpStream> + Clock, D: Day>(
 fn serve<R: Threads + Wait + Net<Listener = TcpListener, Stream = TcpStream> + Clock + Sync>(
     rt: &R,
     alloc: Global,
-    broker: (u16, u8),
+    broker: Listener,
     closes: &AtomicBool,
 ) -> (Result<(), RunError>, Vec<u8>) {
-    let (port, workers) = broker;
-    let workers = workers.clamp(1, 64);
+    let settings = ServeSettings {
+        capacity: 64,
+        workers: broker.workers.clamp(1, 64),
+        max_inflight: MaxInflight::most(),
+        drain: broker.drain,
+    };
+    let at = ListenAt {
+        address: Ipv4Addr::LOCALHOST,
+        port: broker.port,
+        metrics: 0,
+    };
     let mut input = Held { rt, ends: closes };
     let mut output = Vec::new(alloc);
     let ended = serve_at(
         rt,
         alloc,
-        64,
+        settings,
         Routes::new(alloc),
-        workers,
-        MaxInflight::most(),
-        Ipv4Addr::LOCALHOST,
-        port,
+        at,
         &mut input,
         &mut output,
     );

@@ -1,4 +1,4 @@
-//! Tests of `threaded_broker` over transports in memory, and of `tcp_server` over the loopback, both ends in one process.
+//! Tests of `threaded_broker` over transports in memory, of `tcp_server` over the loopback, both ends in one process, and of `metrics`.
 #![tactic(auto)]
 
 #[cfg(test)]
@@ -11,5 +11,7 @@ mod in_memory;
 mod link;
 #[cfg(test)]
 mod loopback;
+#[cfg(test)]
+mod numbers;
 #[cfg(test)]
 mod wrong;

@@ -1,4 +1,5 @@
-//! Clients over the loopback, byte by byte: a job, a takeover, a session that is resumed, a crowd, and a port that is taken.
+//! Clients over the loopback, byte by byte: a job, a takeover, a session that is resumed, a crowd, a drain, and a port that is taken.
 
 mod clients;
+mod draining;
 mod frames;

@@ -1,5 +1,5 @@
 //! Sixty-four clients at once, of which some are slow, half-dead or no clients of MQTT.
-use crate::day::{Counts, Day, live};
+use crate::day::{Counts, Day, Listener, live};
 use crate::fleet::jobs::Jobs;
 use crate::fleet::member::Member;
 use crate::fleet::publisher::Publisher;
@@ -136,8 +136,8 @@ fn settle_all(
 }
 
 impl Day for Crowd {
-    fn broker(&self) -> (u16, u8) {
-        (PORT, 4)
+    fn broker(&self) -> Listener {
+        Listener::at(PORT, 4)
     }
 
     fn pass<R: Net<Listener = TcpListener, Stream = TcpStream> + Clock>(

@@ -1,6 +1,6 @@
 //! Jobs of each kind, to a member that takes no long ones and subscribes under an identifier: those that have expired and those that are too long are
 //! discarded, and each other arrives.
-use crate::day::{Counts, Day, live};
+use crate::day::{Counts, Day, Listener, live};
 use crate::fleet::jobs::Jobs;
 use crate::fleet::member::Member;
 use crate::fleet::publisher::Publisher;
@@ -34,8 +34,8 @@ const ROUNDS: u32 = 5_000;
 struct Discards;
 
 impl Day for Discards {
-    fn broker(&self) -> (u16, u8) {
-        (PORT, 2)
+    fn broker(&self) -> Listener {
+        Listener::at(PORT, 2)
     }
 
     fn pass<R: Net<Listener = TcpListener, Stream = TcpStream> + Clock>(

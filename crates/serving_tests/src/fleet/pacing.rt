@@ -1,5 +1,5 @@
 //! Jobs one at a time, from the connections of several workers to a member of one of them: each of them arrives.
-use crate::day::{Counts, Day, live};
+use crate::day::{Counts, Day, Listener, live};
 use crate::fleet::jobs::Jobs;
 use crate::fleet::member::Member;
 use crate::fleet::publisher::Publisher;
@@ -38,8 +38,8 @@ fn one_job(
 }
 
 impl Day for Paced {
-    fn broker(&self) -> (u16, u8) {
-        (PORT, WORKERS)
+    fn broker(&self) -> Listener {
+        Listener::at(PORT, WORKERS)
     }
 
     fn pass<R: Net<Listener = TcpListener, Stream = TcpStream> + Clock>(

@@ -1,5 +1,5 @@
 //! A run of publishers and members that a rule chooses among.
-use crate::day::{Counts, Day};
+use crate::day::{Counts, Day, Listener};
 use crate::fleet::jobs::{Jobs, PUBLISHERS};
 use crate::fleet::member::{Ending, Member};
 use crate::fleet::publisher::Publisher;
@@ -169,8 +169,8 @@ impl Fleet {
 }
 
 impl Day for Run {
-    fn broker(&self) -> (u16, u8) {
-        (self.port, self.workers)
+    fn broker(&self) -> Listener {
+        Listener::at(self.port, self.workers)
     }
 
     fn pass<R: Net<Listener = TcpListener, Stream = TcpStream> + Clock>(

@@ -1,5 +1,5 @@
 //! Jobs to members of several workers that acknowledge none of them: each has about as many.
-use crate::day::{Counts, Day, live};
+use crate::day::{Counts, Day, Listener, live};
 use crate::link::{Asks, PINGREQ, SUBSCRIBE, join, next, open, publish, send, wanted};
 use crate::wrong::Wrong;
 use std::alloc::Global;
@@ -117,8 +117,8 @@ fn are_even(members: &[Member]) -> Result<(), Wrong> {
 }
 
 impl Day for Spread {
-    fn broker(&self) -> (u16, u8) {
-        (PORT, WORKERS)
+    fn broker(&self) -> Listener {
+        Listener::at(PORT, WORKERS)
     }
 
     fn pass<R: Net<Listener = TcpListener, Stream = TcpStream> + Clock>(

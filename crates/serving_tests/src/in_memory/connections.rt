@@ -3,6 +3,7 @@ ghost use Rattle.std.specs.Prelude.{◌≡◌, None, ⊤};
 
 use bell::Wake;
 use scripted_transport::Scripted;
+use shared_supply::SupplyCounts;
 use std::alloc::{AllocError, Global};
 use std::rt::Clock;
 use std::sync::Wait;
@@ -10,7 +11,7 @@ use std::sync::atomic::{AtomicU64, Ordering};
 use std::thread;
 use std::time::Duration;
 use transport::Crossing;
-use worker_connections::{Poller, Woken};
+use worker_connections::{Poller, ServedCounts, Woken};
 use worker_pool::Watch;
 
 /// How many connections a poller watches at most.
@@ -82,14 +83,19 @@ impl<'a, R: Clock> Poller<Scripted> for AlwaysReady<'a, R> {
         }
     }
 
-    fn wait<W: Wait>(&mut self, rt: &W, at_most: u64) -> Woken {
-        let _ = rt;
-        let _ = at_most;
+    fn wait<W: Wait>(
+        &mut self,
+        _rt: &W,
+        _at_most: u64,
+        _counts: &SupplyCounts,
+        _served: &ServedCounts,
+    ) -> Woken {
         self.next = 0;
         thread::yield_now();
         Woken {
             called: true,
             now: 0,
+            drains: false,
         }
     }
 

@@ -1,5 +1,5 @@
 //! Clients at a broker, from their CONNECT to the close.
-use crate::day::{Counts, Day, live};
+use crate::day::{Counts, Day, Listener, live};
 use crate::link::{ends, gets, open, say, send};
 use crate::loopback::frames;
 use crate::wrong::Wrong;
@@ -14,11 +14,11 @@ use std::sync::Wait;
 use std::sync::atomic::{AtomicBool, Ordering};
 use std::thread::Threads;
 use std::time::Duration;
-use tcp_server::serve_at;
+use tcp_server::{ListenAt, ServeSettings, serve_at};
 use text_io::RunError;
 
 /// What clients saw that published so many jobs, of which so many were acknowledged and so many are held.
-fn counts_of(accepted: u64, acknowledged: u64, held: u64) -> Counts {
+pub(crate) fn counts_of(accepted: u64, acknowledged: u64, held: u64) -> Counts {
     Counts {
         accepted,
         acknowledged,
@@ -53,8 +53,8 @@ fn one_job_of(stream: &mut TcpStream, alloc: Global, closes: &AtomicBool) -> Res
 }
 
 impl Day for OneJob {
-    fn broker(&self) -> (u16, u8) {
-        (18_830, 2)
+    fn broker(&self) -> Listener {
+        Listener::at(18_830, 2)
     }
 
     fn pass<R: Net<Listener = TcpListener, Stream = TcpStream> + Clock>(
@@ -82,8 +82,8 @@ fn taken_over(older: &mut TcpStream, newer: &mut TcpStream, alloc: Global) -> Re
 }
 
 impl Day for TakingOver {
-    fn broker(&self) -> (u16, u8) {
-        (18_831, 2)
+    fn broker(&self) -> Listener {
+        Listener::at(18_831, 2)
     }
 
     fn pass<R: Net<Listener = TcpListener, Stream = TcpStream> + Clock>(
@@ -105,8 +105,8 @@ impl Day for TakingOver {
 struct Resuming;
 
 impl Day for Resuming {
-    fn broker(&self) -> (u16, u8) {
-        (18_832, 2)
+    fn broker(&self) -> Listener {
+        Listener::at(18_832, 2)
     }
 
     fn pass<R: Net<Listener = TcpListener, Stream = TcpStream> + Clock>(
@@ -145,8 +145,8 @@ const EACH: u8 = 9;
 struct Crowd;
 
 impl Day for Crowd {
-    fn broker(&self) -> (u16, u8) {
-        (18_833, 4)
+    fn broker(&self) -> Listener {
+        Listener::at(18_833, 4)
     }
 
     fn pass<R: Net<Listener = TcpListener, Stream = TcpStream> + Clock>(
@@ -196,7 +196,7 @@ fn new_member<R: Net<Listener = TcpListener, Stream = TcpStream> + Clock>(
 }
 
 /// A client joins the group.
-fn enter(stream: &mut TcpStream, alloc: Global, digit: u8) -> Result<(), Wrong> {
+pub(crate) fn enter(stream: &mut TcpStream, alloc: Global, digit: u8) -> Result<(), Wrong> {
     let connect = frames::connect(b'a'.saturating_add(digit));
     say(stream, alloc, &connect, &frames::CONNACK)?;
     say(stream, alloc, &frames::SUBSCRIBE, &frames::SUBACK)
@@ -311,12 +311,18 @@ fn served_twice<R: Threads + Wait + Net<Listener = TcpListener, Stream = TcpStre
     let ended = serve_at(
         rt,
         alloc,
-        1_024,
+        ServeSettings {
+            capacity: 1_024,
+            workers: 1,
+            max_inflight: MaxInflight::most(),
+            drain: 0,
+        },
         Routes::new(alloc),
-        1,
-        MaxInflight::most(),
-        Ipv4Addr::LOCALHOST,
-        18_834,
+        ListenAt {
+            address: Ipv4Addr::LOCALHOST,
+            port: 18_834,
+            metrics: 0,
+        },
         &mut input,
         &mut output,
     );
