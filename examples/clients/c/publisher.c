@@ -30,7 +30,7 @@ int main(int count, char **words) {
             if (sent.reasonCode != MQTTREASONCODE_SUCCESS || MQTTClient_waitForCompletion(client, token, 10000)) return 1;
             printf("0x%02x %s\n", reason, words[at]);
             sleep(reason == MQTTREASONCODE_QUOTA_EXCEEDED ? 1 : 0);
-        } while (reason == MQTTREASONCODE_QUOTA_EXCEEDED); /* 0x97: the queue of the group is full */
+        } while (reason == MQTTREASONCODE_QUOTA_EXCEEDED); /* 0x97: the queue of the group is full, or the broker drains */
         if (reason != MQTTREASONCODE_SUCCESS) { /* 0x10: no group has this topic, and nobody has the job */
             fprintf(stderr, "%s was not accepted\n", words[at]);
             return 1;

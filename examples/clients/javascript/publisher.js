@@ -11,7 +11,7 @@ client.on('packetreceive', packet => {
   if (packet.cmd !== 'puback') return
   const reason = packet.reasonCode || 0
   console.log('0x' + reason.toString(16).padStart(2, '0'), jobs[0])
-  if (reason === 0x97) return setTimeout(publish, 1000) // Quota exceeded: the queue of the group is full
+  if (reason === 0x97) return setTimeout(publish, 1000) // Quota exceeded: the queue of the group is full, or the broker drains
   const job = jobs.shift()
   if (reason === 0) return setImmediate(publish)
   console.error(`${job} was not accepted`) // 0x10: no group has this topic, and nobody has the job

@@ -21,7 +21,7 @@ client.connect(host, int(port))
 client.loop_start()
 for job in jobs:
     client.reason = 0x97
-    while client.reason == 0x97:  # Quota exceeded: the queue of the group is full
+    while client.reason == 0x97:  # Quota exceeded: the queue of the group is full, or the broker drains
         client.publish("jobs", job, qos=1).wait_for_publish()
         print(f"{client.reason:#04x} {job}", flush=True)
         time.sleep(1 if client.reason == 0x97 else 0)
