@@ -211,6 +211,11 @@ impl<P: HoldingPlace> Client<P> {
         self.conn.deadline()
     }
 
+    /// Its identifier, where it has its session: see [`Conn::client_identifier`].
+    pub fn identifier(&self) -> Option<&[u8]> {
+        self.conn.client_identifier()
+    }
+
     /// How many messages it has not acknowledged.
     pub fn held(&self) -> usize
         ensures { result ≡ held_by self.now.conn.phase }

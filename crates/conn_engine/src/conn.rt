@@ -85,6 +85,12 @@ impl<P: HoldingPlace> Conn<P> {
         self.phase.deadline()
     }
 
+    /// The identifier of its client, where that has its session: the one that it connected with, or the one that was assigned to it (sections
+    /// 3.1.3.1 and 3.2.2.3.7).
+    pub fn client_identifier(&self) -> Option<&[u8]> {
+        self.phase.client_identifier()
+    }
+
     /// Lets go of a connection that has ended, as [`Conn::has_ended`] tells.
     pub fn end(self)
         requires { self.phase ≡ phases.Ended }

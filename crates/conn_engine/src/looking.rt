@@ -25,6 +25,18 @@ impl<P> ConnPhase<P> {
     }
 }
 
+impl<P> ConnPhase<P> {
+    /// The identifier of the client, where it is connected.
+    pub(crate) fn client_identifier(&self) -> Option<&[u8]> {
+        match self {
+            ConnPhase::Connected(connected) => Some(connected.session.identity.client().as_slice()),
+            ConnPhase::Unconnected { .. } => None,
+            ConnPhase::Waiting { .. } => None,
+            ConnPhase::Ended => None,
+        }
+    }
+}
+
 impl<P: Place> ConnPhase<P> {
     /// How many messages the client has not acknowledged.
     pub(crate) fn held(&self) -> usize

@@ -22,9 +22,10 @@ use Rattle.session_desk.specs.declared.row.Row.{Row}
 use Rattle.session_desk.specs.declared.row.Holder.{Holder}
 use Rattle.session_desk.specs.declared.row.Holder.TheVariants.{Lent, Parked, Kept}
 use Rattle.session_desk.specs.Rows.{Rows, HasRow, NoRow, IsKept, IsOverdue, session_in, away, new_row, with_holder, with_wait}
-use Rattle.session_desk.specs.Books.{Books, new_books}
-use Rattle.session_desk.specs.Names.{assigned_name}
-use Rattle.session_desk.specs.Attaching.{Request, AttachesClient, AttachesUnnamed, attaches_by, IsNew}
+use Rattle.session_desk.specs.Books.{Books, new_books, new_session}
+use Rattle.session_desk.specs.declared.newcomers.Newcomers.{Newcomers}
+use Rattle.session_desk.proofs.Begun.{Begun, BegunOver, begun, begun_over}
+use Rattle.session_desk.specs.Attaching.{Request, AttachesClient, AttachesUnnamed, attaches_by}
 use Rattle.session_desk.specs.Keeping.{EndsLent, IsLent, HasCell, freed, parked_at}
 use Rattle.session_desk.specs.Sweeping.{HandsOut}
 use Rattle.session_desk.specs.Calls.{Call, Attach, Withdraw, Kicked, Park, ParkAsIs, Keep, Bury, Sweep, LendPlace, TakePlace, Makes, MakesAll}
@@ -152,58 +153,64 @@ module _ {P : Type 0} (measure : P → ℕ) where
     no_row rows made law = none_of (map.get rows made) (λ row has. let less = law.made_before made row has in omega arith)
 
     -- a new session has no place
-    begins : (old : Books E P) (rows : Rows E P) (made : ℕ) (client : List ℕ) (connection : ℕ) (session : Session E P) → IsNew old client session → map.get rows made ≡ None
+    begins : (made : ℕ) (rows : Rows E P) (client : List ℕ) (connection : ℕ) (session : Session E P) → session ≡ new_session (record { number = made; client = client }) → map.get rows made ≡ None
         → (in_rows (map.insert rows made (new_row client connection)) ≡ in_rows rows) × (sum_by measure (place_in session.membership) ≡ 0)
-    begins old rows made client connection session is_new none =
-        (omega (arith, sum_begun in_entry rows made (new_row client connection) none), ap (λ (s : Session E P). sum_by measure (place_in s.membership)) is_new.is)
+    begins made rows client connection session is none =
+        (omega (arith, sum_begun in_entry rows made (new_row client connection) none), ap (λ (s : Session E P). sum_by measure (place_in s.membership)) is)
 
-    -- for a client with an identifier
-    balances_client : (old new : Books E P) (client : List ℕ) (request : Request) (answer : Result (Attached E P) DeskError) → DeskLaw old.rows old.made
-        → AttachesClient old client request answer new → Balances old new [] (places_given answer)
-    balances_client old new client request (Ok (New session None)) law h =
-        let begun = begins old old.rows old.made client request.connection session h.is_new (no_row old.rows old.made law) in
-        rows_change old new (map.insert old.rows old.made (new_row client request.connection)) [] (place_in session.membership ++ []) (ap (λ b. b.rows) h.after) (ap (λ b. b.free) h.after)
-        (omega (arith, begun.0, begun.1, sum_by-append measure (place_in session.membership) []))
-    balances_client old new client request (Ok (New session (Some ended))) law h =
+    balances_begun : (old new : Books E P) (connection : ℕ) (session : Session E P) → DeskLaw old.rows old.made → Begun old connection session new
+        → Balances old new [] (place_in session.membership ++ [])
+    balances_begun old new connection session law h =
+        let begun_so = begins old.made old.rows h.client connection session h.is (no_row old.rows old.made law) in
+        rows_change old new (map.insert old.rows old.made (new_row h.client connection)) [] (place_in session.membership ++ []) h.rows h.free
+        (omega (arith, begun_so.0, begun_so.1, sum_by-append measure (place_in session.membership) []))
+
+    balances_over : (old new : Books E P) (connection : ℕ) (session ended : Session E P) → DeskLaw old.rows old.made → BegunOver old connection session ended new
+        → Balances old new [] (place_in session.membership ++ place_in ended.membership)
+    balances_over old new connection session ended law h =
         let mid : Rows E P = map.insert old.rows h.number (away h.row.client) in
         let none : map.get mid old.made ≡ None =
-        insert_other old.rows h.number old.made (away h.row.client) (λ (e : old.made ≡ h.number). let less = law.made_before h.number h.row h.its.has in omega arith) ∙ no_row old.rows old.made law in
-        let begun = begins old mid old.made client request.connection session h.is_new none in
-        let gone = row_written old.rows h.number h.row (away h.row.client) h.its.has in
-        let stood = ap in_hands h.its.stands in
-        rows_change old new (map.insert mid old.made (new_row client request.connection)) [] (place_in session.membership ++ place_in ended.membership) (ap (λ b. b.rows) h.after) (ap (λ b. b.free) h.after)
-        (omega (arith, begun.0, begun.1, gone, stood, sum_by-append measure (place_in session.membership) (place_in ended.membership)))
-    balances_client old new client request (Ok (Resumed session)) law h =
+        insert_other old.rows h.number old.made (away h.row.client) (λ (e : old.made ≡ h.number). let less = law.made_before h.number h.row h.has in omega arith) ∙ no_row old.rows old.made law in
+        let begun_so = begins old.made mid h.client connection session h.is none in
+        let gone = row_written old.rows h.number h.row (away h.row.client) h.has in
+        let stood = ap in_hands h.stands in
+        rows_change old new (map.insert mid old.made (new_row h.client connection)) [] (place_in session.membership ++ place_in ended.membership) h.rows h.free
+        (omega (arith, begun_so.0, begun_so.1, gone, stood, sum_by-append measure (place_in session.membership) (place_in ended.membership)))
+
+    -- for a client with an identifier
+    balances_client : (newcomers : Newcomers) (old new : Books E P) (byte : ℕ) (bytes : List ℕ) (request : Request) (answer : Result (Attached E P) DeskError) → DeskLaw old.rows old.made
+        → AttachesClient newcomers old (byte ∷ bytes) request answer new → Balances old new [] (places_given answer)
+    balances_client newcomers old new byte bytes request (Ok (New session None)) law h = balances_begun old new request.connection session law (begun newcomers old new request session (byte ∷ bytes) h)
+    balances_client newcomers old new byte bytes request (Ok (New session (Some ended))) law h =
+        balances_over old new request.connection session ended law (begun_over newcomers old new request session (byte ∷ bytes) ended h)
+    balances_client newcomers old new byte bytes request (Ok (Resumed session)) law h =
         moves old new h.number h.row (with_holder h.row (Lent request.connection)) [] (place_in session.membership) h.its.has (ap (λ b. b.rows) h.after) (ap (λ b. b.free) h.after)
         (omega (arith, ap in_hands h.its.stands))
-    balances_client old new client request (Ok (Replace holder)) law h =
+    balances_client newcomers old new byte bytes request (Ok (Replace holder)) law h =
         moves old new h.number h.row (with_wait h.row request.connection) [] [] h.its.has (ap (λ b. b.rows) h.after) (ap (λ b. b.free) h.after) refl
-    balances_client old new client request (Ok Busy) law h = stays old new [] [] h.1 refl
-    balances_client old new client request (Err Full) law h = stays old new [] [] h.2 refl
-    balances_client old new client request (Err Memory) law h = stays old new [] [] h.2 refl
-    balances_client old new client request (Err NoPlace) law h = absurd h
-    balances_client old new client request (Err NoName) law h = absurd h
+    balances_client newcomers old new byte bytes request (Ok Busy) law h = stays old new [] [] h.1 refl
+    balances_client newcomers old new byte bytes request (Err Full) law h = stays old new [] [] h.2 refl
+    balances_client newcomers old new byte bytes request (Err Memory) law h = stays old new [] [] h.1 refl
+    balances_client newcomers old new byte bytes request (Err NoPlace) law h = absurd h
+    balances_client newcomers old new byte bytes request (Err NoName) law h = absurd h
 
     -- for one without
-    balances_unnamed : (old new : Books E P) (request : Request) (answer : Result (Attached E P) DeskError) → DeskLaw old.rows old.made
-        → AttachesUnnamed old request.connection answer new → Balances old new [] (places_given answer)
-    balances_unnamed old new request (Ok (New session None)) law h =
-        let begun = begins old old.rows old.made (assigned_name h.number) request.connection session h.is_new (no_row old.rows old.made law) in
-        rows_change old new (map.insert old.rows old.made (new_row (assigned_name h.number) request.connection)) [] (place_in session.membership ++ []) (ap (λ b. b.rows) h.after) (ap (λ b. b.free) h.after)
-        (omega (arith, begun.0, begun.1, sum_by-append measure (place_in session.membership) []))
-    balances_unnamed old new request (Ok (New session (Some ended))) law h = absurd h
-    balances_unnamed old new request (Ok (Resumed session)) law h = absurd h
-    balances_unnamed old new request (Ok (Replace holder)) law h = absurd h
-    balances_unnamed old new request (Ok Busy) law h = absurd h
-    balances_unnamed old new request (Err Full) law h = stays old new [] [] h.2 refl
-    balances_unnamed old new request (Err Memory) law h = stays old new [] [] h.2 refl
-    balances_unnamed old new request (Err NoPlace) law h = absurd h
-    balances_unnamed old new request (Err NoName) law h = stays old new [] [] h.1 refl
+    balances_unnamed : (newcomers : Newcomers) (old new : Books E P) (request : Request) (answer : Result (Attached E P) DeskError) → DeskLaw old.rows old.made
+        → AttachesUnnamed newcomers old request.connection answer new → Balances old new [] (places_given answer)
+    balances_unnamed newcomers old new request (Ok (New session None)) law h = balances_begun old new request.connection session law (begun newcomers old new request session [] h)
+    balances_unnamed newcomers old new request (Ok (New session (Some ended))) law h = balances_over old new request.connection session ended law (begun_over newcomers old new request session [] ended h)
+    balances_unnamed newcomers old new request (Ok (Resumed session)) law h = absurd h
+    balances_unnamed newcomers old new request (Ok (Replace holder)) law h = absurd h
+    balances_unnamed newcomers old new request (Ok Busy) law h = absurd h
+    balances_unnamed newcomers old new request (Err Full) law h = stays old new [] [] h.2 refl
+    balances_unnamed newcomers old new request (Err Memory) law h = stays old new [] [] h.2 refl
+    balances_unnamed newcomers old new request (Err NoPlace) law h = absurd h
+    balances_unnamed newcomers old new request (Err NoName) law h = stays old new [] [] h.1 refl
 
-    balances_attach : (client : List ℕ) (old new : Books E P) (request : Request) (answer : Result (Attached E P) DeskError) → DeskLaw old.rows old.made
-        → attaches_by client old request answer new → Balances old new [] (places_given answer)
-    balances_attach [] old new request answer law h = balances_unnamed old new request answer law h
-    balances_attach (byte ∷ bytes) old new request answer law h = balances_client old new (byte ∷ bytes) request answer law h
+    balances_attach : (newcomers : Newcomers) (client : List ℕ) (old new : Books E P) (request : Request) (answer : Result (Attached E P) DeskError) → DeskLaw old.rows old.made
+        → attaches_by newcomers client old request answer new → Balances old new [] (places_given answer)
+    balances_attach newcomers [] old new request answer law h = balances_unnamed newcomers old new request answer law h
+    balances_attach newcomers (byte ∷ bytes) old new request answer law h = balances_client newcomers old new byte bytes request answer law h
 
     -- a sweep hands a session out
     hands_out : (old new : Books E P) (IsSo : Row E P → Type 0) (held_by : Holder E P) (session : Session E P) → session_in held_by ≡ Some session → HandsOut old.rows IsSo held_by new.rows
@@ -216,7 +223,7 @@ module _ {P : Type 0} (measure : P → ℕ) where
     module _ (cell : P → ℕ) where
       -- each call
       balances : (old new : Books E P) (call : Call E P) → DeskLaw old.rows old.made → Makes cell old call new → Balances old new (places_in call) (places_out call)
-      balances old new (Attach request answer) law made = balances_attach request.client old new request answer law made
+      balances old new (Attach newcomers request answer) law made = balances_attach newcomers request.client old new request answer law made
       balances old new (Withdraw connection) law made = rows_change old new old.rows [] [] (ap (λ b. b.rows) made) (ap (λ b. b.free) made) refl
       balances old new (Kicked connection answer) law made = stays old new [] [] made.1 refl
       balances old new (Park session now None) law made =

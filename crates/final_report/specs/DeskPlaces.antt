@@ -5,7 +5,7 @@ use Rattle.session_desk.specs.Everything.{place_in, place_of, free_in, places_gi
 
 -- the places that the answer of a call hands out
 abbrev pub places_out : {E P : Type 0} → Call E P → List P
-places_out (Attach request answer) = places_given answer
+places_out (Attach newcomers request answer) = places_given answer
 places_out (Withdraw connection) = []
 places_out (Kicked connection answer) = []
 places_out (Park session now answer) = place_of answer
@@ -18,7 +18,7 @@ places_out (TakePlace place answer) = free_in answer
 
 -- the places that a call hands in
 abbrev pub places_in : {E P : Type 0} → Call E P → List P
-places_in (Attach request answer) = []
+places_in (Attach newcomers request answer) = []
 places_in (Withdraw connection) = []
 places_in (Kicked connection answer) = []
 places_in (Park session now answer) = place_in session.membership

@@ -1,5 +1,5 @@
 -- Every call of the desk keeps what holds of a broker.
-use Rattle.std.proofs.Common.{◌≡◌, ℕ, List, [], ◌∷◌, None, Some, Result, Ok, Err, refl, ap}
+use Rattle.std.proofs.Common.{◌≡◌, ℕ, List, [], ◌∷◌, None, Some, Result, Ok, Err, refl, ap, inl, inr}
 use Rattle.std.specs.Prelude.{IfOk}
 use Rattle.mqtt_topic.specs.Names.{Share}
 use Rattle.group_jobs.specs.Stamps.{Held}
@@ -11,6 +11,7 @@ use Rattle.session_desk.specs.declared.attached.Attached.{Attached}
 use Rattle.session_desk.specs.declared.attached.Attached.TheVariants.{New, Resumed, Replace, Busy}
 use Rattle.session_desk.specs.declared.error.DeskError.{DeskError}
 use Rattle.session_desk.specs.Sessions.{Who}
+use Rattle.session_desk.specs.declared.newcomers.Newcomers.{Newcomers}
 use Rattle.session_desk.specs.Attaching.{Request, AttachesClient, AttachesUnnamed, attaches_by}
 use Rattle.session_desk.specs.Books.{Books, new_session}
 use Rattle.session_desk.specs.Hands.{DeskLaw}
@@ -53,25 +54,26 @@ comes_out old new routes groups call sound going makes =
 new_is_sound : (who : Who) (session : Session Held GroupPlace) → session ≡ new_session who → IsOutAtPlace has_out session → IsSoundSession has_out session
 new_is_sound who session is out = record { going = ap (λ (s : Session Held GroupPlace). s.window.retired) is; out = out }
 
-ready_client : (old new : Books Held GroupPlace) (client : List ℕ) (request : Request) (answer : Result (Attached Held GroupPlace) DeskError) → DeskLaw old.rows old.made
-    → AttachesClient old client request answer new → IsAttachedSo (IsOutAtPlace has_out) (λ place. has_out place []) answer → IfOk answer (IsReady has_out)
-ready_client old new client request (Ok (New session None)) law h out = (new_is_sound (record { number = old.made; client = client }) session h.is_new.is out.0, tt)
-ready_client old new client request (Ok (New session (Some ended))) law h out = (new_is_sound (record { number = old.made; client = client }) session h.is_new.is out.0, out.1)
-ready_client old new client request (Ok (Resumed session)) law h out = record { going = law.not_ending h.number h.row session h.its.has h.its.stands; out = out }
-ready_client old new client request (Ok (Replace holder)) law h out = tt
-ready_client old new client request (Ok Busy) law h out = tt
-ready_client old new client request (Err error) law h out = tt
+ready_client : (newcomers : Newcomers) (old new : Books Held GroupPlace) (client : List ℕ) (request : Request) (answer : Result (Attached Held GroupPlace) DeskError) → DeskLaw old.rows old.made
+    → AttachesClient newcomers old client request answer new → IsAttachedSo (IsOutAtPlace has_out) (λ place. has_out place []) answer → IfOk answer (IsReady has_out)
+ready_client newcomers old new client request (Ok (New session None)) law h out = (new_is_sound (record { number = old.made; client = client }) session h.is out.0, tt)
+ready_client newcomers old new client request (Ok (New session (Some ended))) law (inl h) out = (new_is_sound (record { number = old.made; client = client }) session h.is out.0, out.1)
+ready_client newcomers old new client request (Ok (New session (Some ended))) law (inr h) out = (new_is_sound (record { number = old.made; client = client }) session h.is out.0, out.1)
+ready_client newcomers old new client request (Ok (Resumed session)) law h out = record { going = law.not_ending h.number h.row session h.its.has h.its.stands; out = out }
+ready_client newcomers old new client request (Ok (Replace holder)) law h out = tt
+ready_client newcomers old new client request (Ok Busy) law h out = tt
+ready_client newcomers old new client request (Err error) law h out = tt
 
-ready_unnamed : (old new : Books Held GroupPlace) (connection : ℕ) (answer : Result (Attached Held GroupPlace) DeskError)
-    → AttachesUnnamed old connection answer new → IsAttachedSo (IsOutAtPlace has_out) (λ place. has_out place []) answer → IfOk answer (IsReady has_out)
-ready_unnamed old new connection (Ok (New session None)) h out = (new_is_sound _ session h.is_new.is out.0, tt)
-ready_unnamed old new connection (Ok (New session (Some ended))) h out = absurd h
-ready_unnamed old new connection (Ok (Resumed session)) h out = absurd h
-ready_unnamed old new connection (Ok (Replace holder)) h out = absurd h
-ready_unnamed old new connection (Ok Busy) h out = absurd h
-ready_unnamed old new connection (Err error) h out = tt
+ready_unnamed : (newcomers : Newcomers) (old new : Books Held GroupPlace) (connection : ℕ) (answer : Result (Attached Held GroupPlace) DeskError)
+    → AttachesUnnamed newcomers old connection answer new → IsAttachedSo (IsOutAtPlace has_out) (λ place. has_out place []) answer → IfOk answer (IsReady has_out)
+ready_unnamed newcomers old new connection (Ok (New session None)) h out = (new_is_sound _ session h.begins.is out.0, tt)
+ready_unnamed newcomers old new connection (Ok (New session (Some ended))) h out = (new_is_sound _ session h.begins.is out.0, out.1)
+ready_unnamed newcomers old new connection (Ok (Resumed session)) h out = absurd h
+ready_unnamed newcomers old new connection (Ok (Replace holder)) h out = absurd h
+ready_unnamed newcomers old new connection (Ok Busy) h out = absurd h
+ready_unnamed newcomers old new connection (Err error) h out = tt
 
-pub ready : (client : List ℕ) (old new : Books Held GroupPlace) (request : Request) (answer : Result (Attached Held GroupPlace) DeskError) → DeskLaw old.rows old.made
-    → attaches_by client old request answer new → IsAttachedSo (IsOutAtPlace has_out) (λ place. has_out place []) answer → IfOk answer (IsReady has_out)
-ready [] old new request answer law h out = ready_unnamed old new request.connection answer h out
-ready (byte ∷ bytes) old new request answer law h out = ready_client old new (byte ∷ bytes) request answer law h out
+pub ready : (newcomers : Newcomers) (client : List ℕ) (old new : Books Held GroupPlace) (request : Request) (answer : Result (Attached Held GroupPlace) DeskError) → DeskLaw old.rows old.made
+    → attaches_by newcomers client old request answer new → IsAttachedSo (IsOutAtPlace has_out) (λ place. has_out place []) answer → IfOk answer (IsReady has_out)
+ready newcomers [] old new request answer law h out = ready_unnamed newcomers old new request.connection answer h out
+ready newcomers (byte ∷ bytes) old new request answer law h out = ready_client newcomers old new (byte ∷ bytes) request answer law h out

@@ -17,7 +17,7 @@ use conn_supply::{BindRefusal, NoMemory, OfferRefusal, Supply};
 use group_jobs::{Envelope, Fate, SharedMessage, Stamp};
 use mqtt_packet::Text;
 use mqtt_topic::{Share, Slots, TopicError, TopicName};
-use session_desk::{Attached, DeskError, Place, Session};
+use session_desk::{Attached, DeskError, Newcomers, Place, Session};
 
 /// How many ports a group has: one for each connection whose number is below this.
 const PORTS: u16 = 64;
@@ -54,8 +54,13 @@ impl Supply<LocalPlace> for LocalSupply {
         clean: bool,
         now: u64,
     ) -> Result<Attached<Envelope, LocalPlace>, DeskError> {
-        self.desk
-            .attach(connection, client.shared_bytes(), clean, now)
+        self.desk.attach(
+            Newcomers::IfRoom,
+            connection,
+            client.shared_bytes(),
+            clean,
+            now,
+        )
     }
 
     fn withdraw(&mut self, connection: u16) {

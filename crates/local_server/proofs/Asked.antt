@@ -3,6 +3,7 @@ use Rattle.std.proofs.Common.{◌≡◌, ℕ, List, [], ◌∷◌, Some, None, R
 use Rattle.std.specs.List.{AllByRecursion}
 use Rattle.std.proofs.lemmas.Option.{same_Some}
 use Rattle.group_jobs.specs.Stamps.{Held}
+use Rattle.session_desk.specs.declared.newcomers.Newcomers.TheVariants.{IfRoom}
 use Rattle.session_desk.specs.declared.attached.Attached.{Attached}
 use Rattle.session_desk.specs.declared.attached.Attached.TheVariants.{New, Resumed, Replace, Busy}
 use Rattle.session_desk.specs.declared.error.DeskError.{DeskError}
@@ -23,7 +24,7 @@ use Rattle.local_broker.specs.Calls.{Calls}
 use Rattle.local_broker.specs.Histories.{Called}
 use Rattle.local_broker.proofs.Happened.{law_all_along}
 use Rattle.local_server.proofs.Lent.{KeepsRows, same_rows, same_books, then_keeps, keeps, buries, sweeps}
-use Rattle.local_server.proofs.Given.{IsGiven, IsHandedIn, given_new, given_back, named, waits, parks, parks_as_is}
+use Rattle.local_server.proofs.Given.{IsGiven, IsHandedIn, given_new, given_back, waits, parks, parks_as_is}
 
 abbrev pub Lawful : Broker → Type 0
 Lawful b = DeskLaw b.desk.rows b.desk.made
@@ -71,15 +72,15 @@ led_aside old new leads law = all_aside leads.supply_calls old new leads.aside l
 
 -- a session is given
 gives_by : (client : List ℕ) (answer : Result (Attached Held GroupPlace) DeskError) (old new : Books Held GroupPlace) (request : Request) (session : Session Held GroupPlace)
-    → session_given answer ≡ Some session → DeskLaw old.rows old.made → attaches_by client old request answer new → IsGiven old session request.connection new
+    → session_given answer ≡ Some session → DeskLaw old.rows old.made → attaches_by IfRoom client old request answer new → IsGiven old session request.connection new
 gives_by [] (Ok (New its ended)) old new request session is law does =
-    subst (λ (s : Session Held GroupPlace). IsGiven old s request.connection new) (same_Some its session is) (named ended old new request.connection its law does)
+    subst (λ (s : Session Held GroupPlace). IsGiven old s request.connection new) (same_Some its session is) (given_new [] ended old new request its law does)
 gives_by [] (Ok (Resumed its)) old new request session is law does = absurd does
 gives_by [] (Ok (Replace holder)) old new request session is law does = absurd does
 gives_by [] (Ok Busy) old new request session is law does = absurd does
 gives_by [] (Err error) old new request session is law does = absurd (cc)
 gives_by (byte ∷ bytes) (Ok (New its ended)) old new request session is law does =
-    subst (λ (s : Session Held GroupPlace). IsGiven old s request.connection new) (same_Some its session is) (given_new ended old new (byte ∷ bytes) request its law does)
+    subst (λ (s : Session Held GroupPlace). IsGiven old s request.connection new) (same_Some its session is) (given_new (byte ∷ bytes) ended old new request its law does)
 gives_by (byte ∷ bytes) (Ok (Resumed its)) old new request session is law does =
     subst (λ (s : Session Held GroupPlace). IsGiven old s request.connection new) (same_Some its session is) (given_back old new (byte ∷ bytes) request its law does)
 gives_by (byte ∷ bytes) (Ok (Replace holder)) old new request session is law does = absurd (cc)
@@ -94,7 +95,7 @@ gives old new request number answer session whose is law does =
 
 -- none is given
 in_vain : (client : List ℕ) (answer : Result (Attached Held GroupPlace) DeskError) (old new : Books Held GroupPlace) (request : Request) → session_given answer ≡ None
-    → attaches_by client old request answer new → KeepsRows old new
+    → attaches_by IfRoom client old request answer new → KeepsRows old new
 in_vain [] (Ok (New its ended)) old new request none does = absurd (cc)
 in_vain [] (Ok (Resumed its)) old new request none does = absurd does
 in_vain [] (Ok (Replace holder)) old new request none does = absurd does
@@ -109,7 +110,7 @@ in_vain (byte ∷ bytes) (Ok (Replace holder)) old new request none does = waits
 in_vain (byte ∷ bytes) (Ok Busy) old new request none does = same_books old new does.1
 in_vain (byte ∷ bytes) (Err errors.NoName) old new request none does = absurd does
 in_vain (byte ∷ bytes) (Err errors.Full) old new request none does = same_books old new does.2
-in_vain (byte ∷ bytes) (Err errors.Memory) old new request none does = same_books old new does.2
+in_vain (byte ∷ bytes) (Err errors.Memory) old new request none does = same_books old new does.1
 in_vain (byte ∷ bytes) (Err errors.NoPlace) old new request none does = absurd does
 
 pub gives_none : (old new : Broker) (request : Request) (answer : Result (Attached Held GroupPlace) DeskError) → session_given answer ≡ None

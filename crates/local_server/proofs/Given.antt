@@ -3,14 +3,15 @@ use Rattle.std.proofs.Common.{◌≡◌, ◌≢◌, ◌⊎◌, ℕ, ◌<◌, ◌
 use Rattle.std.specs.FinMap as map
 use Rattle.std.proofs.lemmas.Bool.{cases_eq}
 use Rattle.member_window.specs.Contents.{new_contents}
+use Rattle.session_desk.specs.declared.newcomers.Newcomers.TheVariants.{IfRoom}
+use Rattle.session_desk.proofs.Begun.{BegunOver, begun, begun_over}
 use Rattle.session_desk.specs.declared.attached.Attached.TheVariants.{New, Resumed, Replace}
 use Rattle.session_desk.specs.declared.session.Session.{Session}
 use Rattle.session_desk.specs.declared.row.Row.{Row}
 use Rattle.session_desk.specs.declared.row.Holder.TheVariants.{Lent, Parked}
 use Rattle.session_desk.specs.Rows.{Rows, HasRow, session_in, away, with_holder, with_wait, new_row}
-use Rattle.session_desk.specs.Names.{assigned_name}
 use Rattle.session_desk.specs.Books.{Books, new_session, after_end}
-use Rattle.session_desk.specs.Attaching.{Request, AttachesClient, AttachesUnnamed, BeginsOver}
+use Rattle.session_desk.specs.Attaching.{Request, AttachesClient, attaches_by}
 use Rattle.session_desk.specs.Keeping.{Parks, ParksAsIs, EndsLent, parked_at}
 use Rattle.session_desk.specs.Hands.{DeskLaw}
 use Rattle.session_desk.proofs.Seen.{after_insert, insert_here}
@@ -96,40 +97,35 @@ given_behind old mid new session connection keeps given =
           (λ (parked : IsParkedAs mid.rows session.identity.number session). inr (keeps.parked session.identity.number session parked)) given.from;
     }
 
-begins_over : {E P : Type 0} (old new : Books E P) (client : List ℕ) (request : Request) (session ended : Session E P) → DeskLaw old.rows old.made
-    → BeginsOver old client request session ended new → IsGiven old session request.connection new
-begins_over {E} {P} old new client request session ended law over =
+begins_over : {E P : Type 0} (old new : Books E P) (connection : ℕ) (session ended : Session E P) → DeskLaw old.rows old.made
+    → BegunOver old connection session ended new → IsGiven old session connection new
+begins_over {E} {P} old new connection session ended law over =
     let mid : Books E P = after_end old over.number over.row in
-    let has = over.its.has in
+    let has = over.has in
     let below : IsBelow mid = λ number row there.
     ⊎_elim
     (λ (here : (number ≡ over.number) × (away over.row.client ≡ row)). (let less = law.made_before over.number over.row has in let e = here.0 in omega arith))
     (λ (other : (number ≢ over.number) × HasRow old.rows number row). law.made_before number row other.1)
     (after_insert old.rows over.number number (away over.row.client) row there) in
-    let ends = replaces old mid over.number over.row (away over.row.client) has (λ connection lent. (let parked = over.its.stands in cc)) (λ s e. cc) refl refl in
-    given_behind old mid new session request.connection ends
-    (began mid new client request.connection session below over.is_new.is (ap (λ b. b.rows) over.after) (let e = ap (λ b. b.made) over.after in omega arith))
+    let ends = replaces old mid over.number over.row (away over.row.client) has (λ connection lent. (let parked = over.stands in cc)) (λ s e. cc) refl refl in
+    given_behind old mid new session connection ends
+    (began mid new over.client connection session below over.is over.rows (let e = over.made in omega arith))
 
--- a client with an identifier, and one without
-pub given_new : {E P : Type 0} (ended : Option (Session E P)) (old new : Books E P) (client : List ℕ) (request : Request) (session : Session E P) → DeskLaw old.rows old.made
-    → AttachesClient old client request (Ok (New session ended)) new → IsGiven old session request.connection new
-given_new None old new client request session law does =
-    began old new client request.connection session law.made_before does.is_new.is (ap (λ b. b.rows) does.after) (let e = ap (λ b. b.made) does.after in omega arith)
-given_new (Some ended) old new client request session law does = begins_over old new client request session ended law does
+-- a new session is given
+pub given_new : {E P : Type 0} (client : List ℕ) (ended : Option (Session E P)) (old new : Books E P) (request : Request) (session : Session E P) → DeskLaw old.rows old.made
+    → attaches_by IfRoom client old request (Ok (New session ended)) new → IsGiven old session request.connection new
+given_new client None old new request session law does =
+    let h = begun IfRoom old new request session client does in
+    began old new h.client request.connection session law.made_before h.is h.rows (let e = h.made in omega arith)
+given_new client (Some ended) old new request session law does = begins_over old new request.connection session ended law (begun_over IfRoom old new request session client ended does)
 
 pub given_back : {E P : Type 0} (old new : Books E P) (client : List ℕ) (request : Request) (session : Session E P) → DeskLaw old.rows old.made
-    → AttachesClient old client request (Ok (Resumed session)) new → IsGiven old session request.connection new
+    → AttachesClient IfRoom old client request (Ok (Resumed session)) new → IsGiven old session request.connection new
 given_back old new client request session law does =
     resumed old new does.number request.connection does.row session law does.its.has does.its.stands (ap (λ b. b.rows) does.after) (ap (λ b. b.made) does.after)
 
-pub named : {E P : Type 0} (ended : Option (Session E P)) (old new : Books E P) (connection : ℕ) (session : Session E P) → DeskLaw old.rows old.made
-    → AttachesUnnamed old connection (Ok (New session ended)) new → IsGiven old session connection new
-named None old new connection session law does =
-    began old new (assigned_name does.number) connection session law.made_before does.is_new.is (ap (λ b. b.rows) does.after) (let e = ap (λ b. b.made) does.after in omega arith)
-named (Some ended) old new connection session law does = absurd does
-
 -- none is given
-pub waits : {E P : Type 0} (old new : Books E P) (client : List ℕ) (request : Request) (holder : ℕ) → AttachesClient old client request (Ok (Replace holder)) new
+pub waits : {E P : Type 0} (old new : Books E P) (client : List ℕ) (request : Request) (holder : ℕ) → AttachesClient IfRoom old client request (Ok (Replace holder)) new
     → KeepsRows old new
 waits {E} {P} old new client request holder does =
     let row = with_wait does.row request.connection in

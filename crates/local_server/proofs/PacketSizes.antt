@@ -8,11 +8,13 @@ use Rattle.mqtt_packet.specs.declared.packet.Packet.TheVariants as packets
 use Rattle.mqtt_wire.specs.Writing.{written_size}
 use Rattle.group_jobs.specs.Stamps.{Held}
 use Rattle.member_window.specs.Contents.{held_of}
+use Rattle.session_desk.specs.declared.newcomers.Newcomers.TheVariants.{IfRoom}
+use Rattle.session_desk.proofs.Begun.{begun, begun_over}
 use Rattle.session_desk.specs.declared.attached.Attached.{Attached}
 use Rattle.session_desk.specs.declared.attached.Attached.TheVariants.{New, Resumed, Replace, Busy}
 use Rattle.session_desk.specs.declared.session.Session.{Session}
-use Rattle.session_desk.specs.Attaching.{Request, IsNew, attaches_by}
-use Rattle.session_desk.specs.Books.{Books}
+use Rattle.session_desk.specs.Attaching.{Request, attaches_by}
+use Rattle.session_desk.specs.Books.{Books, new_session}
 use Rattle.conn_engine.specs.declared.input.Input.{Input}
 use Rattle.conn_engine.specs.declared.input.Input.TheVariants as inputs
 use Rattle.conn_engine.specs.declared.phase.Opening.{Opening}
@@ -39,24 +41,22 @@ use Rattle.local_server.proofs.Transcripts.{shortness}
 
 -- ---- the calls of a broker
 
-empty : (old : Books Held GroupPlace) (client : List ℕ) (session : Session Held GroupPlace) → IsNew old client session → held_of session.window ≡ []
-empty old client session is_new = ap (λ (s : Session Held GroupPlace). held_of s.window) is_new.is
+empty : (number : ℕ) (client : List ℕ) (session : Session Held GroupPlace) → session ≡ new_session (record { number = number; client = client }) → held_of session.window ≡ []
+empty number client session is = ap (λ (s : Session Held GroupPlace). held_of s.window) is
 
 lent_empty : (client : List ℕ) (old new : Books Held GroupPlace) (request : Request) (session : Session Held GroupPlace) (ended : Option (Session Held GroupPlace))
-    → attaches_by client old request (Ok (New session ended)) new → held_of session.window ≡ []
-lent_empty [] old new request session None attaches = empty old _ session attaches.is_new
-lent_empty [] old new request session (Some ended) attaches = absurd attaches
-lent_empty (byte ∷ bytes) old new request session None attaches = empty old (byte ∷ bytes) session attaches.is_new
-lent_empty (byte ∷ bytes) old new request session (Some ended) attaches = empty old (byte ∷ bytes) session attaches.is_new
+    → attaches_by IfRoom client old request (Ok (New session ended)) new → held_of session.window ≡ []
+lent_empty client old new request session None attaches = (let h = begun IfRoom old new request session client attaches in empty old.made h.client session h.is)
+lent_empty client old new request session (Some ended) attaches = (let h = begun_over IfRoom old new request session client ended attaches in empty old.made h.client session h.is)
 
 -- a new session holds nothing
 new_empty : AreNewEmpty Calls
 new_empty old new request session ended call = lent_empty request.client old.desk new.desk request session ended call.makes
 
-lent_named : (client : List ℕ) (old new : Books Held GroupPlace) (request : Request) (answer : Attached Held GroupPlace) → client ≡ [] → attaches_by client old request (Ok answer) new
+lent_named : (client : List ℕ) (old new : Books Held GroupPlace) (request : Request) (answer : Attached Held GroupPlace) → client ≡ [] → attaches_by IfRoom client old request (Ok answer) new
     → BringsAssignedName answer
-lent_named [] old new request (New session None) is attaches = (attaches.number, ap (λ (s : Session Held GroupPlace). s.identity.client) attaches.is_new.is)
-lent_named [] old new request (New session (Some ended)) is attaches = absurd attaches
+lent_named [] old new request (New session None) is attaches = (attaches.number, ap (λ (s : Session Held GroupPlace). s.identity.client) attaches.begins.is)
+lent_named [] old new request (New session (Some ended)) is attaches = (attaches.number, ap (λ (s : Session Held GroupPlace). s.identity.client) attaches.begins.is)
 lent_named [] old new request (Resumed session) is attaches = absurd attaches
 lent_named [] old new request (Replace holder) is attaches = absurd attaches
 lent_named [] old new request Busy is attaches = absurd attaches

@@ -4,6 +4,8 @@ use Rattle.std.specs.FinMap as map
 use Rattle.group_jobs.specs.Stamps.{Held}
 use Rattle.member_window.specs.Contents.{held_of}
 use Rattle.member_window.proofs.Lists.{contains_here}
+use Rattle.session_desk.specs.declared.newcomers.Newcomers.TheVariants.{IfRoom}
+use Rattle.session_desk.proofs.Begun.{Begun, BegunOver, begun, begun_over}
 use Rattle.session_desk.specs.declared.attached.Attached.{Attached}
 use Rattle.session_desk.specs.declared.attached.Attached.TheVariants.{New, Resumed, Replace, Busy}
 use Rattle.session_desk.specs.declared.error.DeskError.{DeskError}
@@ -155,37 +157,42 @@ module _ (ledger : Ledger) (old new : Broker) (request : Request) (goes : Shrink
   begins rows client connection is shrinks =
       goes (λ number t at. shrinks number t (written rows new.desk.rows old.desk.made (new_row client connection) is refl number t at).1)
 
-  client_gives : (client : List ℕ) (answer : Result (Attached Held GroupPlace) DeskError) → AttachesClient old.desk client request answer new.desk → Gives ledger new answer
-  client_gives client (Ok (New session None)) does =
-      (owns_calm ledger old new (begins old.desk.rows client request.connection (ap (λ b. b.rows) does.after) (λ number t at. at)) was, fresh session _ (refl, refl) does.is_new.is)
-  client_gives client (Ok (New session (Some ended))) does =
+  gives_new : (session : Kept) → Begun old.desk request.connection session new.desk → Owns ledger new × HoldsNothing session
+  gives_new session does =
+      (owns_calm ledger old new (begins old.desk.rows does.client request.connection does.rows (λ number t at. at)) was, fresh session _ (refl, refl) does.is)
+
+  gives_over : (session ended : Kept) → BegunOver old.desk request.connection session ended new.desk → Holds ledger new ended.membership (held_of ended.window) × HoldsNothing session
+  gives_over session ended does =
       let k = does.number in
       let rows = map.insert old.desk.rows k (away does.row.client) in
       let first = written old.desk.rows rows k (away does.row.client) refl refl in
-      let second = written rows new.desk.rows old.desk.made (new_row client request.connection) (ap (λ b. b.rows) does.after) refl in
+      let second = written rows new.desk.rows old.desk.made (new_row does.client request.connection) does.rows refl in
       let calls = goes (λ number t at. (first number t (second number t at).1).1) in (
-        taken ledger old new k ended (record { row = does.row; has = does.its.has; stands = ap session_in does.its.stands }) calls
+        taken ledger old new k ended (record { row = does.row; has = does.has; stands = ap session_in does.stands }) calls
             (λ number t at. (first number t (second number t at).1).0) was,
-        fresh session _ (refl, refl) does.is_new.is,
+        fresh session _ (refl, refl) does.is,
       )
-  client_gives client (Ok (Resumed session)) does =
+
+  client_gives : (byte : ℕ) (bytes : List ℕ) (answer : Result (Attached Held GroupPlace) DeskError) → AttachesClient IfRoom old.desk (byte ∷ bytes) request answer new.desk → Gives ledger new answer
+  client_gives byte bytes (Ok (New session None)) does = gives_new session (begun IfRoom old.desk new.desk request session (byte ∷ bytes) does)
+  client_gives byte bytes (Ok (New session (Some ended))) does = gives_over session ended (begun_over IfRoom old.desk new.desk request session (byte ∷ bytes) ended does)
+  client_gives byte bytes (Ok (Resumed session)) does =
       let k = does.number in
       let rest = written old.desk.rows new.desk.rows k (with_holder does.row (Lent request.connection)) (ap (λ b. b.rows) does.after) refl in
       taken ledger old new k session (record { row = does.row; has = does.its.has; stands = ap session_in does.its.stands }) (goes (λ number t at. (rest number t at).1))
       (λ number t at. (rest number t at).0) was
-  client_gives client (Ok (Replace holder)) does =
+  client_gives byte bytes (Ok (Replace holder)) does =
       let rest = written old.desk.rows new.desk.rows does.number (with_wait does.row request.connection) (ap (λ b. b.rows) does.after) (ap session_in does.its.stands) in
       owns_calm ledger old new (goes (λ number t at. (rest number t at).1)) was
-  client_gives client (Ok Busy) does = owns_calm ledger old new (goes (same_rows old new (ap (λ b. b.rows) does.1))) was
-  client_gives client (Err errors.Full) does = owns_calm ledger old new (goes (same_rows old new (ap (λ b. b.rows) does.2))) was
-  client_gives client (Err errors.Memory) does = owns_calm ledger old new (goes (same_rows old new (ap (λ b. b.rows) does.2))) was
-  client_gives client (Err errors.NoPlace) does = absurd does
-  client_gives client (Err errors.NoName) does = absurd does
+  client_gives byte bytes (Ok Busy) does = owns_calm ledger old new (goes (same_rows old new (ap (λ b. b.rows) does.1))) was
+  client_gives byte bytes (Err errors.Full) does = owns_calm ledger old new (goes (same_rows old new (ap (λ b. b.rows) does.2))) was
+  client_gives byte bytes (Err errors.Memory) does = owns_calm ledger old new (goes (same_rows old new (ap (λ b. b.rows) does.1))) was
+  client_gives byte bytes (Err errors.NoPlace) does = absurd does
+  client_gives byte bytes (Err errors.NoName) does = absurd does
 
-  gives_by : (client : List ℕ) (answer : Result (Attached Held GroupPlace) DeskError) → attaches_by client old.desk request answer new.desk → Gives ledger new answer
-  gives_by [] (Ok (New session None)) does =
-      (owns_calm ledger old new (begins old.desk.rows _ request.connection (ap (λ b. b.rows) does.after) (λ number t at. at)) was, fresh session _ (refl, refl) does.is_new.is)
-  gives_by [] (Ok (New session (Some ended))) does = absurd does
+  gives_by : (client : List ℕ) (answer : Result (Attached Held GroupPlace) DeskError) → attaches_by IfRoom client old.desk request answer new.desk → Gives ledger new answer
+  gives_by [] (Ok (New session None)) does = gives_new session (begun IfRoom old.desk new.desk request session [] does)
+  gives_by [] (Ok (New session (Some ended))) does = gives_over session ended (begun_over IfRoom old.desk new.desk request session [] ended does)
   gives_by [] (Ok (Resumed session)) does = absurd does
   gives_by [] (Ok (Replace holder)) does = absurd does
   gives_by [] (Ok Busy) does = absurd does
@@ -193,7 +200,7 @@ module _ (ledger : Ledger) (old new : Broker) (request : Request) (goes : Shrink
   gives_by [] (Err errors.Full) does = owns_calm ledger old new (goes (same_rows old new (ap (λ b. b.rows) does.2))) was
   gives_by [] (Err errors.Memory) does = owns_calm ledger old new (goes (same_rows old new (ap (λ b. b.rows) does.2))) was
   gives_by [] (Err errors.NoPlace) does = absurd does
-  gives_by (byte ∷ bytes) answer does = client_gives (byte ∷ bytes) answer does
+  gives_by (byte ∷ bytes) answer does = client_gives byte bytes answer does
 
 pub gives : (ledger : Ledger) (old new : Broker) (request : Request) (answer : Result (Attached Held GroupPlace) DeskError) → Calls old (Attach request answer) new → Owns ledger old
     → Gives ledger new answer

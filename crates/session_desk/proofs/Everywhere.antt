@@ -1,5 +1,5 @@
 -- What holds of everything at a desk: what each call does to it, and what it hands out.
-use Rattle.std.proofs.Common.{◌≡◌, ◌≢◌, ℕ, ◌<◌, List, [], ◌∷◌, slice_set, Option, Some, None, Result, Ok, Err, refl, sym, ap, ◌∙◌, subst, ⊎_elim}
+use Rattle.std.proofs.Common.{◌≡◌, ◌≢◌, ℕ, ◌<◌, List, [], ◌∷◌, slice_set, Option, Some, None, Result, Ok, Err, refl, sym, ap, ◌∙◌, subst, ⊎_elim, inl, inr, IfSome}
 use Rattle.std.specs.FinMap as map
 use Rattle.session_desk.specs.declared.attached.Attached.{Attached}
 use Rattle.session_desk.specs.declared.attached.Attached.TheVariants.{New, Resumed, Replace, Busy}
@@ -14,8 +14,11 @@ use Rattle.session_desk.specs.declared.row.Holder.TheVariants.{Lent, Parked, Kep
 use Rattle.member_window.specs.Contents.{held_of}
 use Rattle.session_desk.specs.Sessions.{Who}
 use Rattle.session_desk.specs.Rows.{Rows, HasRow, NoRow, IsKept, IsOverdue, session_in, away, new_row, with_holder, with_wait}
-use Rattle.session_desk.specs.Books.{Books, new_books, new_session}
+use Rattle.session_desk.specs.Books.{Books, new_books, new_session, after_new, after_end}
 use Rattle.session_desk.specs.Places.{IsFreeAt, IsOwnCell, cell_at}
+use Rattle.session_desk.specs.declared.newcomers.Newcomers.{Newcomers}
+use Rattle.session_desk.specs.Names.{assigned_name}
+use Rattle.session_desk.specs.Newcomers.{BeginsFirst, Displaces}
 use Rattle.session_desk.specs.Attaching.{Request, AttachesClient, AttachesUnnamed, attaches_by}
 use Rattle.session_desk.specs.Keeping.{parked_at, EndsLent, IsLent, freed}
 use Rattle.session_desk.specs.Sweeping.{HandsOut}
@@ -30,33 +33,34 @@ abbrev pub HoldsAt : {P : Type 0} → (ℕ → P → Type 0) → List (Option P)
 HoldsAt {P} FitsAt free = (cell : ℕ) (place : P) → IsFreeAt free cell place → FitsAt cell place
 
 -- an answer to a connection leaves the free places as they are
-free_client : {E P : Type 0} (old new : Books E P) (client : List ℕ) (request : Request) (answer : Result (Attached E P) DeskError) → AttachesClient old client request answer new
+free_client : {E P : Type 0} (newcomers : Newcomers) (old new : Books E P) (client : List ℕ) (request : Request) (answer : Result (Attached E P) DeskError) → AttachesClient newcomers old client request answer new
     → new.free ≡ old.free
-free_client old new client request (Ok (New session None)) h = ap (λ b. b.free) h.after
-free_client old new client request (Ok (New session (Some ended))) h = ap (λ b. b.free) h.after
-free_client old new client request (Ok (Resumed session)) h = ap (λ b. b.free) h.after
-free_client old new client request (Ok (Replace holder)) h = ap (λ b. b.free) h.after
-free_client old new client request (Ok Busy) h = ap (λ b. b.free) h.1
-free_client old new client request (Err Full) h = ap (λ b. b.free) h.2
-free_client old new client request (Err Memory) h = ap (λ b. b.free) h.2
-free_client old new client request (Err NoPlace) h = absurd h
-free_client old new client request (Err NoName) h = absurd h
+free_client newcomers old new client request (Ok (New session None)) h = ap (λ b. b.free) h.after
+free_client newcomers old new client request (Ok (New session (Some ended))) (inl h) = ap (λ b. b.free) h.after
+free_client newcomers old new client request (Ok (New session (Some ended))) (inr h) = ap (λ b. b.free) h.after
+free_client newcomers old new client request (Ok (Resumed session)) h = ap (λ b. b.free) h.after
+free_client newcomers old new client request (Ok (Replace holder)) h = ap (λ b. b.free) h.after
+free_client newcomers old new client request (Ok Busy) h = ap (λ b. b.free) h.1
+free_client newcomers old new client request (Err Full) h = ap (λ b. b.free) h.2
+free_client newcomers old new client request (Err Memory) h = ap (λ b. b.free) h.1
+free_client newcomers old new client request (Err NoPlace) h = absurd h
+free_client newcomers old new client request (Err NoName) h = absurd h
 
-free_unnamed : {E P : Type 0} (old new : Books E P) (connection : ℕ) (answer : Result (Attached E P) DeskError) → AttachesUnnamed old connection answer new → new.free ≡ old.free
-free_unnamed old new connection (Ok (New session None)) h = ap (λ b. b.free) h.after
-free_unnamed old new connection (Ok (New session (Some ended))) h = absurd h
-free_unnamed old new connection (Ok (Resumed session)) h = absurd h
-free_unnamed old new connection (Ok (Replace holder)) h = absurd h
-free_unnamed old new connection (Ok Busy) h = absurd h
-free_unnamed old new connection (Err Full) h = ap (λ b. b.free) h.2
-free_unnamed old new connection (Err Memory) h = ap (λ b. b.free) h.2
-free_unnamed old new connection (Err NoPlace) h = absurd h
-free_unnamed old new connection (Err NoName) h = ap (λ b. b.free) h.1
+free_unnamed : {E P : Type 0} (newcomers : Newcomers) (old new : Books E P) (connection : ℕ) (answer : Result (Attached E P) DeskError) → AttachesUnnamed newcomers old connection answer new → new.free ≡ old.free
+free_unnamed newcomers old new connection (Ok (New session None)) h = ap (λ b. b.free) h.after ∙ ap (λ b. b.free) h.begins.after
+free_unnamed newcomers old new connection (Ok (New session (Some ended))) h = ap (λ b. b.free) h.after ∙ ap (λ b. b.free) h.begins.after
+free_unnamed newcomers old new connection (Ok (Resumed session)) h = absurd h
+free_unnamed newcomers old new connection (Ok (Replace holder)) h = absurd h
+free_unnamed newcomers old new connection (Ok Busy) h = absurd h
+free_unnamed newcomers old new connection (Err Full) h = ap (λ b. b.free) h.2
+free_unnamed newcomers old new connection (Err Memory) h = ap (λ b. b.free) h.2
+free_unnamed newcomers old new connection (Err NoPlace) h = absurd h
+free_unnamed newcomers old new connection (Err NoName) h = ap (λ b. b.free) h.1
 
-free_attach : {E P : Type 0} (client : List ℕ) (old new : Books E P) (request : Request) (answer : Result (Attached E P) DeskError) → attaches_by client old request answer new
+free_attach : {E P : Type 0} (newcomers : Newcomers) (client : List ℕ) (old new : Books E P) (request : Request) (answer : Result (Attached E P) DeskError) → attaches_by newcomers client old request answer new
     → new.free ≡ old.free
-free_attach [] old new request answer h = free_unnamed old new request.connection answer h
-free_attach (byte ∷ bytes) old new request answer h = free_client old new (byte ∷ bytes) request answer h
+free_attach newcomers [] old new request answer h = free_unnamed newcomers old new request.connection answer h
+free_attach newcomers (byte ∷ bytes) old new request answer h = free_client newcomers old new (byte ∷ bytes) request answer h
 
 module _ {E P : Type 0} (Holds : Session E P → Type 0) (Fits : P → Type 0) (cell : P → ℕ) (FitsAt : ℕ → P → Type 0) (at : (place : P) → Fits place → FitsAt (cell place) place)
     (frees : (session : Session E P) → Holds session → held_of session.window ≡ [] → IfMember Fits session.membership) where
@@ -71,7 +75,7 @@ module _ {E P : Type 0} (Holds : Session E P → Type 0) (Fits : P → Type 0) (
 
   -- each call
   pub free_call : (old new : Books E P) (call : Call E P) → Makes cell old call new → GoesIn Holds Fits call → HoldsAt FitsAt old.free → HoldsAt FitsAt new.free
-  free_call old new (Attach request answer) made going held = same_free old.free new.free (free_attach request.client old new request answer made) held
+  free_call old new (Attach newcomers request answer) made going held = same_free old.free new.free (free_attach newcomers request.client old new request answer made) held
   free_call old new (Withdraw connection) made going held = same_free old.free new.free (ap (λ b. b.free) made) held
   free_call old new (Kicked connection answer) made going held = same_free old.free new.free (ap (λ b. b.free) made.1) held
   free_call old new (Park session now None) made going held = same_free old.free new.free (ap (λ b. b.free) made.after) held
@@ -140,55 +144,71 @@ module _ {E P : Type 0} (Holds : Session E P → Type 0) (Fits : P → Type 0) (
   handed_back : (session back : Session E P) → back ≡ session → Holds session → Holds back
   handed_back session back is so = subst Holds (sym is) so
 
-  -- an answer to a connection: the rows then, and what it hands out
-  attach_client : (old new : Books E P) (client : List ℕ) (request : Request) (answer : Result (Attached E P) DeskError) → AttachesClient old client request answer new
-      → InRows old.rows → InRows new.rows × IsAttachedSo Holds Fits answer
-  attach_client old new client request (Ok (New session None)) h inside = (
-    same_rows (map.insert old.rows old.made (new_row client request.connection)) new.rows (ap (λ b. b.rows) h.after)
-        (empties old.rows old.made (new_row client request.connection) inside refl),
-    (fresh (record { number = old.made; client = client }) session h.is_new.is, tt),
-  )
-  attach_client old new client request (Ok (New session (Some ended))) h inside =
-      let mid : Rows E P = map.insert old.rows h.number (away h.row.client) in (
-        same_rows (map.insert mid old.made (new_row client request.connection)) new.rows (ap (λ b. b.rows) h.after)
-            (empties mid old.made (new_row client request.connection) (empties old.rows h.number (away h.row.client) inside refl) refl),
-        (fresh (record { number = old.made; client = client }) session h.is_new.is, inside h.number h.row ended h.its.has (ap session_in h.its.stands)),
+  -- a new session begins where another's ends
+  ends_for : (old new : Books E P) (client : List ℕ) (connection number : ℕ) (row : Row E P) (session ended : Session E P) → HasRow old.rows number row → row.held_by ≡ Parked ended
+      → session ≡ new_session (record { number = old.made; client = client }) → new ≡ after_new (after_end old number row) client connection
+      → InRows old.rows → InRows new.rows × (Holds session × IfSome (Some ended) Holds)
+  ends_for old new client connection number row session ended has stands is after inside =
+      let mid : Rows E P = map.insert old.rows number (away row.client) in (
+        same_rows (map.insert mid old.made (new_row client connection)) new.rows (ap (λ b. b.rows) after)
+            (empties mid old.made (new_row client connection) (empties old.rows number (away row.client) inside refl) refl),
+        (fresh (record { number = old.made; client = client }) session is, inside number row ended has (ap session_in stands)),
       )
-  attach_client old new client request (Ok (Resumed session)) h inside = (
+
+  begins_first : (newcomers : Newcomers) (old new : Books E P) (client : List ℕ) (connection : ℕ) (session : Session E P) → BeginsFirst newcomers old client connection session new
+      → InRows old.rows → InRows new.rows × (Holds session × IfSome None Holds)
+  begins_first newcomers old new client connection session h inside = (
+    same_rows (map.insert old.rows old.made (new_row client connection)) new.rows (ap (λ b. b.rows) h.after)
+        (empties old.rows old.made (new_row client connection) inside refl),
+    (fresh (record { number = old.made; client = client }) session h.is, tt),
+  )
+
+  displaces : (newcomers : Newcomers) (old new : Books E P) (client : List ℕ) (connection : ℕ) (session ended : Session E P) → Displaces newcomers old client connection session ended new
+      → InRows old.rows → InRows new.rows × (Holds session × IfSome (Some ended) Holds)
+  displaces newcomers old new client connection session ended h inside =
+      ends_for old new client connection h.number h.row session ended h.goes.longest.has h.goes.longest.stands h.is h.after inside
+
+  -- an answer to a connection: the rows then, and what it hands out
+  attach_client : (newcomers : Newcomers) (old new : Books E P) (client : List ℕ) (request : Request) (answer : Result (Attached E P) DeskError) → AttachesClient newcomers old client request answer new
+      → InRows old.rows → InRows new.rows × IsAttachedSo Holds Fits answer
+  attach_client newcomers old new client request (Ok (New session None)) h inside = begins_first newcomers old new client request.connection session h inside
+  attach_client newcomers old new client request (Ok (New session (Some ended))) (inl h) inside =
+      ends_for old new client request.connection h.number h.row session ended h.its.has h.its.stands h.is h.after inside
+  attach_client newcomers old new client request (Ok (New session (Some ended))) (inr h) inside = displaces newcomers old new client request.connection session ended h inside
+  attach_client newcomers old new client request (Ok (Resumed session)) h inside = (
     same_rows (map.insert old.rows h.number (with_holder h.row (Lent request.connection))) new.rows (ap (λ b. b.rows) h.after)
         (empties old.rows h.number (with_holder h.row (Lent request.connection)) inside refl),
     inside h.number h.row session h.its.has (ap session_in h.its.stands),
   )
-  attach_client old new client request (Ok (Replace holder)) h inside = (
+  attach_client newcomers old new client request (Ok (Replace holder)) h inside = (
     same_rows (map.insert old.rows h.number (with_wait h.row request.connection)) new.rows (ap (λ b. b.rows) h.after)
         (empties old.rows h.number (with_wait h.row request.connection) inside (ap session_in h.its.stands)),
     tt,
   )
-  attach_client old new client request (Ok Busy) h inside = (same_rows old.rows new.rows (ap (λ b. b.rows) h.1) inside, tt)
-  attach_client old new client request (Err Full) h inside = (same_rows old.rows new.rows (ap (λ b. b.rows) h.2) inside, tt)
-  attach_client old new client request (Err Memory) h inside = (same_rows old.rows new.rows (ap (λ b. b.rows) h.2) inside, tt)
-  attach_client old new client request (Err NoPlace) h inside = absurd h
-  attach_client old new client request (Err NoName) h inside = absurd h
+  attach_client newcomers old new client request (Ok Busy) h inside = (same_rows old.rows new.rows (ap (λ b. b.rows) h.1) inside, tt)
+  attach_client newcomers old new client request (Err Full) h inside = (same_rows old.rows new.rows (ap (λ b. b.rows) h.2) inside, tt)
+  attach_client newcomers old new client request (Err Memory) h inside = (same_rows old.rows new.rows (ap (λ b. b.rows) h.1) inside, tt)
+  attach_client newcomers old new client request (Err NoPlace) h inside = absurd h
+  attach_client newcomers old new client request (Err NoName) h inside = absurd h
 
-  attach_unnamed : (old new : Books E P) (connection : ℕ) (answer : Result (Attached E P) DeskError) → AttachesUnnamed old connection answer new
+  attach_unnamed : (newcomers : Newcomers) (old new : Books E P) (connection : ℕ) (answer : Result (Attached E P) DeskError) → AttachesUnnamed newcomers old connection answer new
       → InRows old.rows → InRows new.rows × IsAttachedSo Holds Fits answer
-  attach_unnamed old new connection (Ok (New session None)) h inside = (
-    subst InRows (sym (ap (λ b. b.rows) h.after)) (empties old.rows old.made _ inside refl),
-    (fresh _ session h.is_new.is, tt),
-  )
-  attach_unnamed old new connection (Ok (New session (Some ended))) h inside = absurd h
-  attach_unnamed old new connection (Ok (Resumed session)) h inside = absurd h
-  attach_unnamed old new connection (Ok (Replace holder)) h inside = absurd h
-  attach_unnamed old new connection (Ok Busy) h inside = absurd h
-  attach_unnamed old new connection (Err Full) h inside = (same_rows old.rows new.rows (ap (λ b. b.rows) h.2) inside, tt)
-  attach_unnamed old new connection (Err Memory) h inside = (same_rows old.rows new.rows (ap (λ b. b.rows) h.2) inside, tt)
-  attach_unnamed old new connection (Err NoPlace) h inside = absurd h
-  attach_unnamed old new connection (Err NoName) h inside = (same_rows old.rows new.rows (ap (λ b. b.rows) h.1) inside, tt)
+  attach_unnamed newcomers old new connection (Ok (New session None)) h inside =
+      let first = begins_first newcomers old h.mid (assigned_name h.number) connection session h.begins inside in (same_rows h.mid.rows new.rows (ap (λ b. b.rows) h.after) first.0, first.1)
+  attach_unnamed newcomers old new connection (Ok (New session (Some ended))) h inside =
+      let first = displaces newcomers old h.mid (assigned_name h.number) connection session ended h.begins inside in (same_rows h.mid.rows new.rows (ap (λ b. b.rows) h.after) first.0, first.1)
+  attach_unnamed newcomers old new connection (Ok (Resumed session)) h inside = absurd h
+  attach_unnamed newcomers old new connection (Ok (Replace holder)) h inside = absurd h
+  attach_unnamed newcomers old new connection (Ok Busy) h inside = absurd h
+  attach_unnamed newcomers old new connection (Err Full) h inside = (same_rows old.rows new.rows (ap (λ b. b.rows) h.2) inside, tt)
+  attach_unnamed newcomers old new connection (Err Memory) h inside = (same_rows old.rows new.rows (ap (λ b. b.rows) h.2) inside, tt)
+  attach_unnamed newcomers old new connection (Err NoPlace) h inside = absurd h
+  attach_unnamed newcomers old new connection (Err NoName) h inside = (same_rows old.rows new.rows (ap (λ b. b.rows) h.1) inside, tt)
 
-  attach : (client : List ℕ) (old new : Books E P) (request : Request) (answer : Result (Attached E P) DeskError) → attaches_by client old request answer new
+  attach : (newcomers : Newcomers) (client : List ℕ) (old new : Books E P) (request : Request) (answer : Result (Attached E P) DeskError) → attaches_by newcomers client old request answer new
       → InRows old.rows → InRows new.rows × IsAttachedSo Holds Fits answer
-  attach [] old new request answer h inside = attach_unnamed old new request.connection answer h inside
-  attach (byte ∷ bytes) old new request answer h inside = attach_client old new (byte ∷ bytes) request answer h inside
+  attach newcomers [] old new request answer h inside = attach_unnamed newcomers old new request.connection answer h inside
+  attach newcomers (byte ∷ bytes) old new request answer h inside = attach_client newcomers old new (byte ∷ bytes) request answer h inside
 
   -- a sweep hands out a session
   sweeps : (old new : Rows E P) (IsOne : Row E P → Type 0) (held_by : Holder E P) (session : Session E P) → session_in held_by ≡ Some session → HandsOut old IsOne held_by new
@@ -201,7 +221,7 @@ module _ {E P : Type 0} (Holds : Session E P → Type 0) (Fits : P → Type 0) (
   module _ (cell : P → ℕ) where
     -- each call
     call_rows : (old new : Books E P) (call : Call E P) → Makes cell old call new → IsEverywhere Holds Fits old → GoesIn Holds Fits call → InRows new.rows × ComesOut Holds Fits call
-    call_rows old new (Attach request answer) made so going = attach request.client old new request answer made so.sessions
+    call_rows old new (Attach newcomers request answer) made so going = attach newcomers request.client old new request answer made so.sessions
     call_rows old new (Withdraw connection) made so going = (same_rows old.rows new.rows (ap (λ b. b.rows) made) so.sessions, tt)
     call_rows old new (Kicked connection answer) made so going = (same_rows old.rows new.rows (ap (λ b. b.rows) made.1) so.sessions, tt)
     call_rows old new (Park session now None) made so going = (

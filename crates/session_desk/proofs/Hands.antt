@@ -1,5 +1,5 @@
 -- Each call moves sessions between hands, one at a time, and keeps the desk law.
-use Rattle.std.proofs.Common.{◌≡◌, ◌≢◌, ℕ, ◌+◌, ◌<◌, nat_eq, nat_lt, if◌then◌else◌, Bool, true, false, cond, List, Some, None, refl, sym, ap, ◌∙◌, ⊎_elim, arith}
+use Rattle.std.proofs.Common.{◌≡◌, ◌≢◌, ℕ, ◌+◌, ◌<◌, ◌≤◌, nat_eq, nat_lt, if◌then◌else◌, Bool, true, false, cond, List, Some, None, refl, sym, ap, ◌∙◌, ⊎_elim, arith}
 use Rattle.std.specs.FinMap as map
 use Rattle.std.proofs.lemmas.Bool.{cases_Bool, cases_eq, eqb-true, eq-eqb, false≢true}
 use Rattle.session_desk.specs.declared.session.Session.{Session}
@@ -7,9 +7,10 @@ use Rattle.session_desk.specs.declared.row.Row.{Row}
 use Rattle.session_desk.specs.declared.row.Holder.{Holder}
 use Rattle.session_desk.specs.declared.row.Holder.TheVariants.{Parked, Away}
 use Rattle.session_desk.specs.Rows.{Rows, HasRow, NoneLivesAs, is_living, session_in, away, new_row}
-use Rattle.session_desk.specs.Hands.{is_out, out_of_row, row_count, outs, rows_of, DeskLaw}
+use Rattle.session_desk.specs.Hands.{is_out, out_of_row, row_count, outs, rows_of, living_row, living_in, DeskLaw}
 use Rattle.session_desk.proofs.Seen.{after_insert, insert_here, insert_other, after_remove, remove_here, remove_other}
 use Rattle.session_desk.proofs.Booked.{len_same, len_more, len_removed}
+use Rattle.session_desk.proofs.Living.{living_moved, living_more, living_removed}
 use Rattle.session_desk.proofs.Kept.{same_who, none_of}
 use Rattle.std.proofs.lemmas.Bool.Decides.{nat_tests}
 
@@ -130,6 +131,15 @@ once_moved rows k before after has client lives n row there living =
     (λ (old : (n ≢ k) × HasRow rows n row). (row, old.1, living, refl))
     (after_insert rows k n after row there)
 
+no_more_by : (b a : Bool) → (a ≡ true → b ≡ true) → cond a 1 0 ≤ cond b 1 0
+no_more_by true true lives = omega arith
+no_more_by true false lives = omega arith
+no_more_by false true lives = absurd (false≢true (lives refl))
+no_more_by false false lives = omega arith
+
+no_more : {E P : Type 0} (before after : Row E P) → (is_living after.held_by ≡ true → is_living before.held_by ≡ true) → living_row after ≤ living_row before
+no_more before after lives = no_more_by (is_living before.held_by) (is_living after.held_by) lives
+
 -- the law is kept where a session changes hands
 pub law_moved : {E P : Type 0} (rows : Rows E P) (made k : ℕ) (before after : Row E P) → DeskLaw rows made → HasRow rows k before → after.client ≡ before.client
     → (is_living after.held_by ≡ true → is_living before.held_by ≡ true)
@@ -138,7 +148,8 @@ pub law_moved : {E P : Type 0} (rows : Rows E P) (made k : ℕ) (before after : 
     → DeskLaw (map.insert rows k after) made
 law_moved rows made k before after law has client lives own quiet =
     record {
-      few = (let same = len_same rows k before after has in let few = law.few in omega arith);
+      few = (let moved = living_moved rows k before after has in let less = no_more before after lives in let few = law.few in omega arith);
+      fit = (let same = len_same rows k before after has in let fit = law.fit in omega arith);
       made_before = λ n row there.
           ⊎_elim
           (λ (here : (n ≡ k) × (after ≡ row)). let below = law.made_before k before has in let e = here.0 in omega arith)
@@ -161,13 +172,14 @@ law_moved rows made k before after law has client lives own quiet =
     }
 
 -- where one is new
-pub law_begun : {E P : Type 0} (rows : Rows E P) (made : ℕ) (client : List ℕ) (connection : ℕ) → DeskLaw rows made → NoneLivesAs rows client → map.len rows < 256
+pub law_begun : {E P : Type 0} (rows : Rows E P) (made : ℕ) (client : List ℕ) (connection : ℕ) → DeskLaw rows made → NoneLivesAs rows client → living_in rows < 256 → map.len rows < 512
     → DeskLaw (map.insert rows made (new_row {E = E} {P = P} client connection)) (made + 1)
-law_begun {E} {P} rows made client connection law none room =
+law_begun {E} {P} rows made client connection law none room fits =
     let row : Row E P = new_row client connection in
     let absent : map.get rows made ≡ None = none_of (map.get rows made) (λ r has. let below = law.made_before made r has in omega arith) in
     record {
-      few = (let more = len_more rows made row absent in omega arith);
+      few = (let more = living_more rows made row absent in omega arith);
+      fit = (let more = len_more rows made row absent in omega arith);
       made_before = λ n other there.
           ⊎_elim
           (λ (here : (n ≡ made) × (row ≡ other)). let e = here.0 in omega arith)
@@ -202,7 +214,8 @@ law_begun {E} {P} rows made client connection law none room =
 pub law_removed : {E P : Type 0} (rows : Rows E P) (made k : ℕ) (row : Row E P) → DeskLaw rows made → HasRow rows k row → DeskLaw (map.remove rows k) made
 law_removed rows made k row law has =
     record {
-      few = (let less = len_removed rows k row has in let few = law.few in omega arith);
+      few = (let less = living_removed rows k row has in let few = law.few in omega arith);
+      fit = (let less = len_removed rows k row has in let fit = law.fit in omega arith);
       made_before = λ n other there. law.made_before n other (after_remove rows k n other there).1;
       one_each = λ n m one two there here living alive same. law.one_each n m one two (after_remove rows k n one there).1 (after_remove rows k m two here).1 living alive same;
       own = λ n other session there inside. law.own n other session (after_remove rows k n other there).1 inside;

@@ -276,6 +276,14 @@ fresh_after rows at made soonest k row after kept has =
     let below = kept.made_before k row has in
     insert_other rows k made after (λ (e : made ≡ k). omega arith) ∙ fresh_number rows at made soonest kept
 
+-- a row that was written before a session is new is still there
+pub still_away : {E P : Type 0} (rows : Rows E P) (at : At) (made soonest k : ℕ) (row fresh : Row E P) → AreKept rows at made soonest → HasRow rows k row
+    → HasRow (map.insert (map.insert rows k (away row.client)) made fresh) k (away row.client)
+still_away {E} {P} rows at made soonest k row fresh kept has =
+    let after : Row E P = away row.client in
+    let below = kept.made_before k row has in
+    insert_other (map.insert rows k after) made k fresh (λ (e : k ≡ made). omega arith) ∙ insert_here rows k after
+
 shadowed : {A : Type 0} (b : Bool) (x y z : A) → cond b x z ≡ cond b x (cond b y z)
 shadowed true x y z = refl
 shadowed false x y z = refl
@@ -291,6 +299,32 @@ kept_begin_over {E} {P} rows at after made soonest k connection row client kept 
     (kept_dismiss rows at between made soonest k row kept has lives (λ other. ap (λ t. cond (pointwise nat_eq t other) None (at other)) (sym its)))
     (subst (NoneLivesAs (map.insert rows k (away row.client))) its (none_after_dismiss rows at made soonest k row kept has lives))
     (λ other. leads other ∙ shadowed (pointwise nat_eq client other) (Some made) None (at other))
+
+swapped : {A : Type 0} (a b : Bool) (x y z : A) → (a ≡ true → b ≡ true → ⊥) → cond a x (cond b y z) ≡ cond b y (cond a x z)
+swapped true true x y z apart = absurd (apart refl refl)
+swapped true false x y z apart = refl
+swapped false b x y z apart = refl
+
+-- a client that has no session has none where another's ends
+pub still_none : {E P : Type 0} (rows : Rows E P) (k : ℕ) (client other : List ℕ) → NoneLivesAs rows client → NoneLivesAs (map.insert rows k (away {E = E} {P = P} other)) client
+still_none {E} {P} rows k client other none n row there lives =
+    ⊎_elim
+    (λ (here : (n ≡ k) × (away {E = E} {P = P} other ≡ row)). false≢true (ap (λ r. is_living r.held_by) here.1 ∙ lives.living))
+    (λ (was : (n ≢ k) × HasRow rows n row). none n row was.1 lives)
+    (after_insert rows k n (away other) row there)
+
+-- a session begins in the place of another client's
+pub kept_displace : {E P : Type 0} (rows : Rows E P) (at after : At) (made soonest k connection : ℕ) (row : Row E P) (client : List ℕ)
+    → AreKept rows at made soonest → HasRow rows k row → is_living row.held_by ≡ true → NoneLivesAs rows client
+    → ((other : List ℕ) → after other ≡ cond (pointwise nat_eq row.client other) None (cond (pointwise nat_eq client other) (Some made) (at other)))
+    → AreKept (map.insert (map.insert rows k (away row.client)) made (new_row client connection)) after (made + 1) soonest
+kept_displace {E} {P} rows at after made soonest k connection row client kept has lives none leads =
+    let between : At = λ other. cond (pointwise nat_eq row.client other) None (at other) in
+    kept_begin (map.insert rows k (away row.client)) between after made soonest connection client
+    (kept_dismiss rows at between made soonest k row kept has lives (λ other. refl))
+    (still_none rows k client row.client none)
+    (λ other. leads other ∙ swapped (pointwise nat_eq row.client other) (pointwise nat_eq client other) None (Some made) (at other)
+    (λ own theirs. none k row has (record { its = same_text row.client other own ∙ sym (same_text client other theirs); living = lives })))
 
 no_rows_at_all : {E P : Type 0} (n : ℕ) (row : Row E P) → HasRow (map.empty {R = nat_cmp}) n row → ⊥
 no_rows_at_all {E} {P} n row has = let none = get-empty {X = Row E P} nat_cmp n in cc

@@ -1,5 +1,5 @@
 -- What a row keeps is what was put into it last: what one call does, and then what all calls do.
-use Rattle.std.proofs.Common.{◌≡◌, ◌≢◌, ℕ, Bool, cond, List, [], ◌∷◌, Option, Some, None, Result, Ok, Err, refl, sym, ap, ◌∙◌, subst, ⊎_elim}
+use Rattle.std.proofs.Common.{◌≡◌, ◌≢◌, ℕ, Bool, cond, List, [], ◌∷◌, Option, Some, None, Result, Ok, Err, refl, sym, ap, ◌∙◌, subst, ⊎_elim, inl, inr}
 use Rattle.std.specs.Option.{option_or}
 use Rattle.std.specs.FinMap as map
 use Rattle.std.specs.FinMap.{get-empty}
@@ -17,6 +17,9 @@ use Rattle.session_desk.specs.Rows.{Rows, HasRow, NoRow, IsKept, IsOverdue, sess
 use Rattle.session_desk.specs.Books.{Books, new_books}
 use Rattle.session_desk.specs.Hands.{DeskLaw}
 use Rattle.session_desk.specs.Keeping.{EndsLent, IsLent, parked_at}
+use Rattle.session_desk.specs.declared.newcomers.Newcomers.{Newcomers}
+use Rattle.session_desk.specs.Names.{assigned_name}
+use Rattle.session_desk.specs.Newcomers.{Displaces}
 use Rattle.session_desk.specs.Attaching.{Request, AttachesClient, AttachesUnnamed, attaches_by}
 use Rattle.session_desk.specs.Sweeping.{HandsOut}
 use Rattle.session_desk.specs.Calls.{Call, Attach, Withdraw, Kicked, Park, ParkAsIs, Keep, Bury, Sweep, LendPlace, TakePlace, Makes, MakesAll}
@@ -69,42 +72,51 @@ stored_in {E} {P} rows last given stored after are keeps =
 removed : {E P : Type 0} (rows : Rows E P) (last : ℕ → Option (Session E P)) (k : ℕ) → AreLast rows last → AreLast (map.remove rows k) last
 removed rows last k are = record { same = λ number row session has keeps. are.same number row session (after_remove rows k number row has).1 keeps }
 
+-- a newcomer's session begins where another's ends
+last_displaced : {E P : Type 0} (newcomers : Newcomers) (old new : Books E P) (client : List ℕ) (connection : ℕ) (session ended : Session E P) (last : ℕ → Option (Session E P))
+    → AreLast old.rows last → Displaces newcomers old client connection session ended new → AreLast new.rows last
+last_displaced {E} {P} newcomers old new client connection session ended last are h =
+    subst (λ (b : Books E P). AreLast b.rows last) (sym h.after)
+    (emptied (map.insert old.rows h.number (away h.row.client)) last old.made (new_row client connection) (emptied old.rows last h.number (away h.row.client) are refl) refl)
+
 -- for a client with an identifier
-last_client : {E P : Type 0} (old new : Books E P) (client : List ℕ) (request : Request) (answer : Result (Attached E P) DeskError) (last : ℕ → Option (Session E P))
-    → AreLast old.rows last → AttachesClient old client request answer new → AreLast new.rows last
-last_client {E} {P} old new client request (Ok (New session None)) last are h =
+last_client : {E P : Type 0} (newcomers : Newcomers) (old new : Books E P) (client : List ℕ) (request : Request) (answer : Result (Attached E P) DeskError) (last : ℕ → Option (Session E P))
+    → AreLast old.rows last → AttachesClient newcomers old client request answer new → AreLast new.rows last
+last_client {E} {P} newcomers old new client request (Ok (New session None)) last are h =
     subst (λ (b : Books E P). AreLast b.rows last) (sym h.after) (emptied old.rows last old.made (new_row client request.connection) are refl)
-last_client {E} {P} old new client request (Ok (New session (Some ended))) last are h =
+last_client {E} {P} newcomers old new client request (Ok (New session (Some ended))) last are (inl h) =
     subst (λ (b : Books E P). AreLast b.rows last) (sym h.after)
     (emptied (map.insert old.rows h.number (away h.row.client)) last old.made (new_row client request.connection) (emptied old.rows last h.number (away h.row.client) are refl) refl)
-last_client {E} {P} old new client request (Ok (Resumed session)) last are h =
+last_client {E} {P} newcomers old new client request (Ok (New session (Some ended))) last are (inr h) = last_displaced newcomers old new client request.connection session ended last are h
+last_client {E} {P} newcomers old new client request (Ok (Resumed session)) last are h =
     subst (λ (b : Books E P). AreLast b.rows last) (sym h.after) (emptied old.rows last h.number (with_holder h.row (Lent request.connection)) are refl)
-last_client {E} {P} old new client request (Ok (Replace holder)) last are h =
+last_client {E} {P} newcomers old new client request (Ok (Replace holder)) last are h =
     subst (λ (b : Books E P). AreLast b.rows last) (sym h.after) (rewritten old.rows last h.number h.row (with_wait h.row request.connection) are h.its.has refl)
-last_client {E} {P} old new client request (Ok Busy) last are h = subst (λ (b : Books E P). AreLast b.rows last) (sym h.1) are
-last_client {E} {P} old new client request (Err Full) last are h = subst (λ (b : Books E P). AreLast b.rows last) (sym h.2) are
-last_client {E} {P} old new client request (Err Memory) last are h = subst (λ (b : Books E P). AreLast b.rows last) (sym h.2) are
-last_client old new client request (Err NoPlace) last are h = absurd h
-last_client old new client request (Err NoName) last are h = absurd h
+last_client {E} {P} newcomers old new client request (Ok Busy) last are h = subst (λ (b : Books E P). AreLast b.rows last) (sym h.1) are
+last_client {E} {P} newcomers old new client request (Err Full) last are h = subst (λ (b : Books E P). AreLast b.rows last) (sym h.2) are
+last_client {E} {P} newcomers old new client request (Err Memory) last are h = subst (λ (b : Books E P). AreLast b.rows last) (sym h.1) are
+last_client newcomers old new client request (Err NoPlace) last are h = absurd h
+last_client newcomers old new client request (Err NoName) last are h = absurd h
 
 -- for one without
-last_unnamed : {E P : Type 0} (old new : Books E P) (connection : ℕ) (answer : Result (Attached E P) DeskError) (last : ℕ → Option (Session E P))
-    → AreLast old.rows last → AttachesUnnamed old connection answer new → AreLast new.rows last
-last_unnamed {E} {P} old new connection (Ok (New session None)) last are h =
-    subst (λ (b : Books E P). AreLast b.rows last) (sym h.after) (emptied old.rows last old.made _ are refl)
-last_unnamed old new connection (Ok (New session (Some ended))) last are h = absurd h
-last_unnamed old new connection (Ok (Resumed session)) last are h = absurd h
-last_unnamed old new connection (Ok (Replace holder)) last are h = absurd h
-last_unnamed old new connection (Ok Busy) last are h = absurd h
-last_unnamed {E} {P} old new connection (Err Full) last are h = subst (λ (b : Books E P). AreLast b.rows last) (sym h.2) are
-last_unnamed {E} {P} old new connection (Err Memory) last are h = subst (λ (b : Books E P). AreLast b.rows last) (sym h.2) are
-last_unnamed old new connection (Err NoPlace) last are h = absurd h
-last_unnamed {E} {P} old new connection (Err NoName) last are h = subst (λ (b : Books E P). AreLast b.rows last) (sym h.1) are
+last_unnamed : {E P : Type 0} (newcomers : Newcomers) (old new : Books E P) (connection : ℕ) (answer : Result (Attached E P) DeskError) (last : ℕ → Option (Session E P))
+    → AreLast old.rows last → AttachesUnnamed newcomers old connection answer new → AreLast new.rows last
+last_unnamed {E} {P} newcomers old new connection (Ok (New session None)) last are h =
+    subst (λ (b : Books E P). AreLast b.rows last) (sym h.after) (subst (λ (b : Books E P). AreLast b.rows last) (sym h.begins.after) (emptied old.rows last old.made _ are refl))
+last_unnamed {E} {P} newcomers old new connection (Ok (New session (Some ended))) last are h =
+    subst (λ (b : Books E P). AreLast b.rows last) (sym h.after) (last_displaced newcomers old h.mid (assigned_name h.number) connection session ended last are h.begins)
+last_unnamed newcomers old new connection (Ok (Resumed session)) last are h = absurd h
+last_unnamed newcomers old new connection (Ok (Replace holder)) last are h = absurd h
+last_unnamed newcomers old new connection (Ok Busy) last are h = absurd h
+last_unnamed {E} {P} newcomers old new connection (Err Full) last are h = subst (λ (b : Books E P). AreLast b.rows last) (sym h.2) are
+last_unnamed {E} {P} newcomers old new connection (Err Memory) last are h = subst (λ (b : Books E P). AreLast b.rows last) (sym h.2) are
+last_unnamed newcomers old new connection (Err NoPlace) last are h = absurd h
+last_unnamed {E} {P} newcomers old new connection (Err NoName) last are h = subst (λ (b : Books E P). AreLast b.rows last) (sym h.1) are
 
-last_attach : {E P : Type 0} (client : List ℕ) (old new : Books E P) (request : Request) (answer : Result (Attached E P) DeskError) (last : ℕ → Option (Session E P))
-    → AreLast old.rows last → attaches_by client old request answer new → AreLast new.rows last
-last_attach [] old new request answer last are h = last_unnamed old new request.connection answer last are h
-last_attach (byte ∷ bytes) old new request answer last are h = last_client old new (byte ∷ bytes) request answer last are h
+last_attach : {E P : Type 0} (newcomers : Newcomers) (client : List ℕ) (old new : Books E P) (request : Request) (answer : Result (Attached E P) DeskError) (last : ℕ → Option (Session E P))
+    → AreLast old.rows last → attaches_by newcomers client old request answer new → AreLast new.rows last
+last_attach newcomers [] old new request answer last are h = last_unnamed newcomers old new request.connection answer last are h
+last_attach newcomers (byte ∷ bytes) old new request answer last are h = last_client newcomers old new (byte ∷ bytes) request answer last are h
 
 -- a session is handed out to be retired
 last_given : {E P : Type 0} (old new : Rows E P) (IsSo : Row E P → Type 0) (held_by : Holder E P) (last : ℕ → Option (Session E P)) → AreLast old last → HandsOut old IsSo held_by new → AreLast new last
@@ -115,7 +127,7 @@ module _ {P : Type 0} (cell : P → ℕ) where
   -- each call
   last_call : {E : Type 0} (old new : Books E P) (call : Call E P) (last : ℕ → Option (Session E P)) → AreLast old.rows last → Makes cell old call new
       → AreLast new.rows (λ n. option_or (put_in n call) (last n))
-  last_call old new (Attach request answer) last are made = last_attach request.client old new request answer last are made
+  last_call old new (Attach newcomers request answer) last are made = last_attach newcomers request.client old new request answer last are made
   last_call {E} old new (Withdraw connection) last are made = subst (λ (b : Books E P). AreLast b.rows last) (sym made) are
   last_call {E} old new (Kicked connection answer) last are made = subst (λ (b : Books E P). AreLast b.rows last) (sym made.1) are
   last_call {E} old new (Park session now None) last are made =
@@ -178,29 +190,38 @@ out_of_row : {E P : Type 0} (rows : Rows E P) (made number : ℕ) (row : Row E P
 out_of_row rows made number row session last law are has keeps =
     let own = ap (λ w. w.number) (law.own number row session has keeps) in ap last own ∙ are.same number row session has keeps
 
-out_client : {E P : Type 0} (old new : Books E P) (client : List ℕ) (request : Request) (answer : Result (Attached E P) DeskError) (last : ℕ → Option (Session E P)) (out : Session E P)
-    → DeskLaw old.rows old.made → AreLast old.rows last → AttachesClient old client request answer new → IsOutBy answer out → last out.identity.number ≡ Some out
-out_client old new client request (Ok (New session (Some ended))) last out law are h is =
+out_displaced : {E P : Type 0} (newcomers : Newcomers) (old new : Books E P) (client : List ℕ) (connection : ℕ) (session ended : Session E P) (last : ℕ → Option (Session E P)) (out : Session E P)
+    → DeskLaw old.rows old.made → AreLast old.rows last → Displaces newcomers old client connection session ended new → ended ≡ out → last out.identity.number ≡ Some out
+out_displaced newcomers old new client connection session ended last out law are h is =
+    subst (λ s. last s.identity.number ≡ Some s) is (out_of_row old.rows old.made h.number h.row ended last law are h.goes.longest.has (ap session_in h.goes.longest.stands))
+
+out_client : {E P : Type 0} (newcomers : Newcomers) (old new : Books E P) (client : List ℕ) (request : Request) (answer : Result (Attached E P) DeskError) (last : ℕ → Option (Session E P)) (out : Session E P)
+    → DeskLaw old.rows old.made → AreLast old.rows last → AttachesClient newcomers old client request answer new → IsOutBy answer out → last out.identity.number ≡ Some out
+out_client newcomers old new client request (Ok (New session (Some ended))) last out law are (inl h) is =
     subst (λ s. last s.identity.number ≡ Some s) is (out_of_row old.rows old.made h.number h.row ended last law are h.its.has (ap session_in h.its.stands))
-out_client old new client request (Ok (New session None)) last out law are h is = absurd is
-out_client old new client request (Ok (Resumed session)) last out law are h is =
+out_client newcomers old new client request (Ok (New session (Some ended))) last out law are (inr h) is =
+    out_displaced newcomers old new client request.connection session ended last out law are h is
+out_client newcomers old new client request (Ok (New session None)) last out law are h is = absurd is
+out_client newcomers old new client request (Ok (Resumed session)) last out law are h is =
     subst (λ s. last s.identity.number ≡ Some s) is (out_of_row old.rows old.made h.number h.row session last law are h.its.has (ap session_in h.its.stands))
-out_client old new client request (Ok (Replace holder)) last out law are h is = absurd is
-out_client old new client request (Ok Busy) last out law are h is = absurd is
-out_client old new client request (Err error) last out law are h is = absurd is
+out_client newcomers old new client request (Ok (Replace holder)) last out law are h is = absurd is
+out_client newcomers old new client request (Ok Busy) last out law are h is = absurd is
+out_client newcomers old new client request (Err error) last out law are h is = absurd is
 
-out_unnamed : {E P : Type 0} (old new : Books E P) (connection : ℕ) (answer : Result (Attached E P) DeskError) (out : Session E P) → AttachesUnnamed old connection answer new → IsOutBy answer out → ⊥
-out_unnamed old new connection (Ok (New session (Some ended))) out h is = h
-out_unnamed old new connection (Ok (New session None)) out h is = is
-out_unnamed old new connection (Ok (Resumed session)) out h is = h
-out_unnamed old new connection (Ok (Replace holder)) out h is = is
-out_unnamed old new connection (Ok Busy) out h is = is
-out_unnamed old new connection (Err error) out h is = is
+out_unnamed : {E P : Type 0} (newcomers : Newcomers) (old new : Books E P) (connection : ℕ) (answer : Result (Attached E P) DeskError) (last : ℕ → Option (Session E P)) (out : Session E P)
+    → DeskLaw old.rows old.made → AreLast old.rows last → AttachesUnnamed newcomers old connection answer new → IsOutBy answer out → last out.identity.number ≡ Some out
+out_unnamed newcomers old new connection (Ok (New session (Some ended))) last out law are h is =
+    out_displaced newcomers old h.mid (assigned_name h.number) connection session ended last out law are h.begins is
+out_unnamed newcomers old new connection (Ok (New session None)) last out law are h is = absurd is
+out_unnamed newcomers old new connection (Ok (Resumed session)) last out law are h is = absurd h
+out_unnamed newcomers old new connection (Ok (Replace holder)) last out law are h is = absurd is
+out_unnamed newcomers old new connection (Ok Busy) last out law are h is = absurd is
+out_unnamed newcomers old new connection (Err error) last out law are h is = absurd is
 
-out_attach : {E P : Type 0} (client : List ℕ) (old new : Books E P) (request : Request) (answer : Result (Attached E P) DeskError) (last : ℕ → Option (Session E P)) (out : Session E P)
-    → DeskLaw old.rows old.made → AreLast old.rows last → attaches_by client old request answer new → IsOutBy answer out → last out.identity.number ≡ Some out
-out_attach [] old new request answer last out law are h is = absurd (out_unnamed old new request.connection answer out h is)
-out_attach (byte ∷ bytes) old new request answer last out law are h is = out_client old new (byte ∷ bytes) request answer last out law are h is
+out_attach : {E P : Type 0} (newcomers : Newcomers) (client : List ℕ) (old new : Books E P) (request : Request) (answer : Result (Attached E P) DeskError) (last : ℕ → Option (Session E P)) (out : Session E P)
+    → DeskLaw old.rows old.made → AreLast old.rows last → attaches_by newcomers client old request answer new → IsOutBy answer out → last out.identity.number ≡ Some out
+out_attach newcomers [] old new request answer last out law are h is = out_unnamed newcomers old new request.connection answer last out law are h is
+out_attach newcomers (byte ∷ bytes) old new request answer last out law are h is = out_client newcomers old new (byte ∷ bytes) request answer last out law are h is
 
 out_swept : {E P : Type 0} (old new : Rows E P) (made : ℕ) (IsSo : Row E P → Type 0) (held_by : Holder E P) (session : Session E P) (last : ℕ → Option (Session E P))
     → DeskLaw old made → AreLast old last → session_in held_by ≡ Some session → HandsOut old IsSo held_by new → last session.identity.number ≡ Some session
@@ -210,7 +231,7 @@ out_swept old new made IsSo held_by session last law are inside h =
 module _ {P : Type 0} (cell : P → ℕ) where
   out_call : {E : Type 0} (old new : Books E P) (call : Call E P) (last : ℕ → Option (Session E P)) (out : Session E P) → DeskLaw old.rows old.made → AreLast old.rows last
       → Makes cell old call new → TakesOut call out → last out.identity.number ≡ Some out
-  out_call old new (Attach request answer) last out law are made is = out_attach request.client old new request answer last out law are made is
+  out_call old new (Attach newcomers request answer) last out law are made is = out_attach newcomers request.client old new request answer last out law are made is
   out_call {E} old new (Sweep now (Some session)) last out law are made is =
       subst (λ s. last s.identity.number ≡ Some s) is
       (

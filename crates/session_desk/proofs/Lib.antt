@@ -1,4 +1,6 @@
 pub mod Seen
+pub mod TakenOut
+pub mod Living
 pub mod Kept
 pub mod Searched
 pub mod Cells
@@ -6,9 +8,10 @@ pub mod Booked
 pub mod Unnamed
 pub mod Hands
 pub mod OneHand
-pub mod TakenOut
 pub mod Marked
 pub mod LastIn
 pub mod OneClient
 pub mod OneAnswer
 pub mod Everywhere
+pub mod ShutOut
+pub mod Begun

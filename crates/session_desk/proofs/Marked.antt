@@ -9,6 +9,7 @@ use Rattle.session_desk.specs.declared.error.DeskError.{DeskError}
 use Rattle.session_desk.specs.declared.error.DeskError.TheVariants.{Full, NoPlace, Memory, NoName}
 use Rattle.session_desk.specs.Books.{Books, IsKicked}
 use Rattle.session_desk.specs.Keeping.{EndsLent, IsLent}
+use Rattle.session_desk.specs.declared.newcomers.Newcomers.{Newcomers}
 use Rattle.session_desk.specs.Attaching.{Request, AttachesClient, AttachesUnnamed, attaches_by}
 use Rattle.session_desk.specs.Calls.{Call, Attach, Withdraw, Kicked, Park, ParkAsIs, Keep, Bury, Sweep, LendPlace, TakePlace, Makes, MakesAll}
 use Rattle.session_desk.specs.AskedBack.{LendsTo, AsksBack, NoneLends, IsAskedBack}
@@ -22,37 +23,38 @@ marks_by marks connection (Ok Busy) = marks
 marks_by marks connection (Err error) = marks
 
 abbrev marks_after : {E P : Type 0} → List Bool → Call E P → List Bool
-marks_after marks (Attach request answer) = marks_by marks request.connection answer
+marks_after marks (Attach newcomers request answer) = marks_by marks request.connection answer
 marks_after marks _ = marks
 
-by_client : {E P : Type 0} (old new : Books E P) (client : List ℕ) (request : Request) (answer : Result (Attached E P) DeskError) → AttachesClient old client request answer new
+by_client : {E P : Type 0} (newcomers : Newcomers) (old new : Books E P) (client : List ℕ) (request : Request) (answer : Result (Attached E P) DeskError) → AttachesClient newcomers old client request answer new
     → new.kicked ≡ marks_by old.kicked request.connection answer
-by_client old new client request (Ok (New session None)) h = ap (λ b. b.kicked) h.after
-by_client old new client request (Ok (New session (Some ended))) h = ap (λ b. b.kicked) h.after
-by_client old new client request (Ok (Resumed session)) h = ap (λ b. b.kicked) h.after
-by_client old new client request (Ok (Replace holder)) h = ap (λ b. b.kicked) h.after
-by_client old new client request (Ok Busy) h = ap (λ b. b.kicked) h.1
-by_client old new client request (Err Full) h = ap (λ b. b.kicked) h.2
-by_client old new client request (Err Memory) h = ap (λ b. b.kicked) h.2
-by_client old new client request (Err NoPlace) h = absurd h
-by_client old new client request (Err NoName) h = absurd h
+by_client newcomers old new client request (Ok (New session None)) h = ap (λ b. b.kicked) h.after
+by_client newcomers old new client request (Ok (New session (Some ended))) (inl h) = ap (λ b. b.kicked) h.after
+by_client newcomers old new client request (Ok (New session (Some ended))) (inr h) = ap (λ b. b.kicked) h.after
+by_client newcomers old new client request (Ok (Resumed session)) h = ap (λ b. b.kicked) h.after
+by_client newcomers old new client request (Ok (Replace holder)) h = ap (λ b. b.kicked) h.after
+by_client newcomers old new client request (Ok Busy) h = ap (λ b. b.kicked) h.1
+by_client newcomers old new client request (Err Full) h = ap (λ b. b.kicked) h.2
+by_client newcomers old new client request (Err Memory) h = ap (λ b. b.kicked) h.1
+by_client newcomers old new client request (Err NoPlace) h = absurd h
+by_client newcomers old new client request (Err NoName) h = absurd h
 
-by_unnamed : {E P : Type 0} (old new : Books E P) (connection : ℕ) (answer : Result (Attached E P) DeskError) → AttachesUnnamed old connection answer new
+by_unnamed : {E P : Type 0} (newcomers : Newcomers) (old new : Books E P) (connection : ℕ) (answer : Result (Attached E P) DeskError) → AttachesUnnamed newcomers old connection answer new
     → new.kicked ≡ marks_by old.kicked connection answer
-by_unnamed old new connection (Ok (New session None)) h = ap (λ b. b.kicked) h.after
-by_unnamed old new connection (Ok (New session (Some ended))) h = absurd h
-by_unnamed old new connection (Ok (Resumed session)) h = absurd h
-by_unnamed old new connection (Ok (Replace holder)) h = absurd h
-by_unnamed old new connection (Ok Busy) h = absurd h
-by_unnamed old new connection (Err Full) h = ap (λ b. b.kicked) h.2
-by_unnamed old new connection (Err Memory) h = ap (λ b. b.kicked) h.2
-by_unnamed old new connection (Err NoPlace) h = absurd h
-by_unnamed old new connection (Err NoName) h = ap (λ b. b.kicked) h.1
+by_unnamed newcomers old new connection (Ok (New session None)) h = ap (λ b. b.kicked) h.after ∙ ap (λ b. b.kicked) h.begins.after
+by_unnamed newcomers old new connection (Ok (New session (Some ended))) h = ap (λ b. b.kicked) h.after ∙ ap (λ b. b.kicked) h.begins.after
+by_unnamed newcomers old new connection (Ok (Resumed session)) h = absurd h
+by_unnamed newcomers old new connection (Ok (Replace holder)) h = absurd h
+by_unnamed newcomers old new connection (Ok Busy) h = absurd h
+by_unnamed newcomers old new connection (Err Full) h = ap (λ b. b.kicked) h.2
+by_unnamed newcomers old new connection (Err Memory) h = ap (λ b. b.kicked) h.2
+by_unnamed newcomers old new connection (Err NoPlace) h = absurd h
+by_unnamed newcomers old new connection (Err NoName) h = ap (λ b. b.kicked) h.1
 
-by_attach : {E P : Type 0} (client : List ℕ) (old new : Books E P) (request : Request) (answer : Result (Attached E P) DeskError) → attaches_by client old request answer new
+by_attach : {E P : Type 0} (newcomers : Newcomers) (client : List ℕ) (old new : Books E P) (request : Request) (answer : Result (Attached E P) DeskError) → attaches_by newcomers client old request answer new
     → new.kicked ≡ marks_by old.kicked request.connection answer
-by_attach [] old new request answer h = by_unnamed old new request.connection answer h
-by_attach (byte ∷ bytes) old new request answer h = by_client old new (byte ∷ bytes) request answer h
+by_attach newcomers [] old new request answer h = by_unnamed newcomers old new request.connection answer h
+by_attach newcomers (byte ∷ bytes) old new request answer h = by_client newcomers old new (byte ∷ bytes) request answer h
 
 -- a mark that is written is there, and each other stays
 written : (marks : List Bool) (at connection : ℕ) (mark : Bool) → connection < length marks
@@ -72,30 +74,30 @@ abbrev IsMarked : List Bool → ℕ → Type 0
 IsMarked marks connection = slice_get marks connection ≡ Some true
 
 -- after an answer
-marked_by : {E P : Type 0} (marks : List Bool) (request : Request) (connection : ℕ) (answer : Result (Attached E P) DeskError) → connection < length marks
+marked_by : {E P : Type 0} (newcomers : Newcomers) (marks : List Bool) (request : Request) (connection : ℕ) (answer : Result (Attached E P) DeskError) → connection < length marks
     → IsMarked (marks_by marks request.connection answer) connection
-    ↔ (AsksBack {E = E} {P = P} connection (Attach request answer) ⊎ (IsMarked marks connection × ¬ LendsTo {E = E} {P = P} connection (Attach request answer)))
-marked_by marks request connection (Ok (New session ended)) within =
+    ↔ (AsksBack {E = E} {P = P} connection (Attach newcomers request answer) ⊎ (IsMarked marks connection × ¬ LendsTo {E = E} {P = P} connection (Attach newcomers request answer)))
+marked_by newcomers marks request connection (Ok (New session ended)) within =
     ⊎_elim
     (λ here. (λ is. absurd (some_false (sym here.1 ∙ is)), λ h. ⊎_elim (λ never. absurd never) (λ was. absurd (was.1 (here.0, tt))) h))
     (λ other. (λ is. inr (sym other.1 ∙ is, λ lends. other.0 lends.0), λ h. ⊎_elim (λ never. absurd never) (λ was. other.1 ∙ was.0) h))
     (written marks request.connection connection false within)
-marked_by marks request connection (Ok (Resumed session)) within =
+marked_by newcomers marks request connection (Ok (Resumed session)) within =
     ⊎_elim
     (λ here. (λ is. absurd (some_false (sym here.1 ∙ is)), λ h. ⊎_elim (λ never. absurd never) (λ was. absurd (was.1 (here.0, tt))) h))
     (λ other. (λ is. inr (sym other.1 ∙ is, λ lends. other.0 lends.0), λ h. ⊎_elim (λ never. absurd never) (λ was. other.1 ∙ was.0) h))
     (written marks request.connection connection false within)
-marked_by marks request connection (Ok (Replace holder)) within =
+marked_by newcomers marks request connection (Ok (Replace holder)) within =
     ⊎_elim
     (λ here. (λ is. inl here.0, λ h. here.1))
     (λ other. (λ is. inr (sym other.1 ∙ is, λ lends. lends.1), λ h. ⊎_elim (λ holds. absurd (other.0 holds)) (λ was. other.1 ∙ was.0) h))
     (written marks holder connection true within)
-marked_by marks request connection (Ok Busy) within = (λ is. inr (is, λ lends. lends.1), λ h. ⊎_elim (λ never. absurd never) (λ was. was.0) h)
-marked_by marks request connection (Err error) within = (λ is. inr (is, λ lends. lends.1), λ h. ⊎_elim (λ never. absurd never) (λ was. was.0) h)
+marked_by newcomers marks request connection (Ok Busy) within = (λ is. inr (is, λ lends. lends.1), λ h. ⊎_elim (λ never. absurd never) (λ was. was.0) h)
+marked_by newcomers marks request connection (Err error) within = (λ is. inr (is, λ lends. lends.1), λ h. ⊎_elim (λ never. absurd never) (λ was. was.0) h)
 
 marked_call : {E P : Type 0} (marks : List Bool) (call : Call E P) (connection : ℕ) → connection < length marks
     → IsMarked (marks_after marks call) connection ↔ (AsksBack connection call ⊎ (IsMarked marks connection × ¬ LendsTo connection call))
-marked_call marks (Attach request answer) connection within = marked_by marks request connection answer within
+marked_call marks (Attach newcomers request answer) connection within = marked_by newcomers marks request connection answer within
 marked_call marks _ connection within = (λ is. inr (is, λ lends. lends), λ h. ⊎_elim (λ never. absurd never) (λ was. was.0) h)
 
 length_by : {E P : Type 0} (marks : List Bool) (connection : ℕ) (answer : Result (Attached E P) DeskError) → length (marks_by marks connection answer) ≡ length marks
@@ -106,13 +108,13 @@ length_by marks connection (Ok Busy) = refl
 length_by marks connection (Err error) = refl
 
 length_after : {E P : Type 0} (marks : List Bool) (call : Call E P) → length (marks_after marks call) ≡ length marks
-length_after marks (Attach request answer) = length_by marks request.connection answer
+length_after marks (Attach newcomers request answer) = length_by marks request.connection answer
 length_after marks _ = refl
 
 module _ {P : Type 0} (cell : P → ℕ) where
   -- each call
   marks_of : {E : Type 0} (old new : Books E P) (call : Call E P) → Makes cell old call new → new.kicked ≡ marks_after old.kicked call
-  marks_of old new (Attach request answer) made = by_attach request.client old new request answer made
+  marks_of old new (Attach newcomers request answer) made = by_attach newcomers request.client old new request answer made
   marks_of old new (Withdraw connection) made = ap (λ b. b.kicked) made
   marks_of old new (Kicked connection answer) made = ap (λ b. b.kicked) made.1
   marks_of old new (Park session now None) made = ap (λ b. b.kicked) made.after

@@ -148,8 +148,8 @@ module _ {E P : Type 0} (cell : P → ℕ) (old new new' : Books E P) (law : Des
   told say x y other is same = (ap say same.0 ∙ sym is, same.1)
 
   pub one_answer : (call other : Call E P) → IsSameQuestion call other → HadMemory call → HadMemory other → Makes cell old call new → Makes cell old other new' → (call ≡ other) × (new ≡ new')
-  one_answer (Attach request x) other asks had also h k =
-      told (Attach request) x asks.0 other asks.1 (one_attach request.client old new new' request x asks.0 law had (rw asks.1 at also) h (rw asks.1 at k))
+  one_answer (Attach newcomers request x) other asks had also h k =
+      told (Attach newcomers request) x asks.0 other asks.1 (one_attach newcomers request.client old new new' request x asks.0 law had (rw asks.1 at also) h (rw asks.1 at k))
   one_answer (Withdraw connection) other asks had also h k = (sym asks, h ∙ sym (rw asks at k))
   one_answer (Kicked connection x) other asks had also h k =
       let k' = rw asks.1 at k in told (Kicked connection) x asks.0 other asks.1 (one_told {IsSo = IsKicked old connection} x asks.0 h.0 k'.0, same_books old new new' h.1 k'.1)

@@ -1,5 +1,5 @@
 -- A session is in one pair of hands: what one call does, and then what all calls do.
-use Rattle.std.proofs.Common.{◌≡◌, ℕ, ◌+◌, ◌<◌, nat_eq, nat_lt, if◌then◌else◌, Bool, true, false, cond, List, [], ◌∷◌, Some, None, Result, Ok, Err, refl, sym, ap, ◌∙◌, subst, ⊎_elim, arith, le-ltb}
+use Rattle.std.proofs.Common.{◌≡◌, ◌≢◌, ℕ, ◌+◌, ◌<◌, nat_eq, nat_lt, if◌then◌else◌, Bool, true, false, cond, List, [], ◌∷◌, Option, Some, None, Result, Ok, Err, refl, sym, ap, ◌∙◌, subst, ⊎_elim, inl, inr, arith, le-ltb}
 use Rattle.std.specs.Ordering.{nat_cmp}
 use Rattle.std.specs.FinMap as map
 use Rattle.std.specs.FinMap.{get-empty, len-empty}
@@ -14,12 +14,16 @@ use Rattle.session_desk.specs.declared.row.Holder.TheVariants.{Lent, Parked, Kep
 use Rattle.session_desk.specs.Rows.{Rows, HasRow, NoneLivesAs, NoRow, IsKept, IsOverdue, IsRowOf, is_living, session_in, away, new_row, with_holder, with_wait}
 use Rattle.session_desk.specs.Books.{Books, new_session, with_rows}
 use Rattle.session_desk.specs.Names.{assigned_name}
+use Rattle.session_desk.specs.declared.newcomers.Newcomers.{Newcomers}
+use Rattle.session_desk.specs.declared.newcomers.Newcomers.TheVariants.{IfRoom, Displace, Refused}
+use Rattle.session_desk.specs.Newcomers.{HasSpace, Begins}
 use Rattle.session_desk.specs.Attaching.{Request, AttachesClient, AttachesUnnamed, attaches_by}
 use Rattle.session_desk.specs.Keeping.{parked_at, EndsLent, IsLent}
 use Rattle.session_desk.specs.Sweeping.{HandsOut}
 use Rattle.session_desk.specs.Calls.{Call, Attach, Withdraw, Kicked, Park, ParkAsIs, Keep, Bury, Sweep, LendPlace, TakePlace, IsAllowed, Makes, MakesAll}
-use Rattle.session_desk.specs.Hands.{once, attached_out, handed_out, handed_in, buried, total, outs, rows_of, DeskLaw}
-use Rattle.session_desk.proofs.Kept.{none_of}
+use Rattle.session_desk.specs.Hands.{once, attached_out, handed_out, handed_in, buried, total, outs, rows_of, once_in, living_row, living_in, DeskLaw}
+use Rattle.session_desk.proofs.Kept.{none_of, still_none}
+use Rattle.session_desk.proofs.Living.{living_within, living_moved, none_living}
 use Rattle.session_desk.proofs.Booked.{len_same}
 use Rattle.session_desk.proofs.Hands.{out_of, outs_moved, rows_moved, outs_begun, rows_begun, outs_removed, rows_removed, below_next, law_moved, law_begun, law_removed, none_lives}
 
@@ -56,12 +60,12 @@ moves old made k before after i o has client lives own quiet counts =
     }
 
 -- a session is new
-begins : {E P : Type 0} (old : Rows E P) (made : ℕ) (client : List ℕ) (connection : ℕ) → (DeskLaw old made → NoneLivesAs old client) → (DeskLaw old made → map.len old < 256)
+begins : {E P : Type 0} (old : Rows E P) (made : ℕ) (client : List ℕ) (connection : ℕ) → (DeskLaw old made → NoneLivesAs old client) → (DeskLaw old made → living_in old < 256) → (DeskLaw old made → map.len old < 512)
     → Does old (map.insert old made (new_row client connection)) made (made + 1) (λ n. cond (nat_eq made n) 1 0) zero_each zero_each
-begins {E} {P} old made client connection none room =
+begins {E} {P} old made client connection none room fits =
     let absent = λ (law : DeskLaw old made). none_of (map.get old made) (λ row has. let less = law.made_before made row has in omega arith) in
     record {
-      law = λ law. law_begun old made client connection law (none law) (room law);
+      law = λ law. law_begun old made client connection law (none law) (room law) (fits law);
       hands = λ law n. (let more = outs_begun {E = E} {P = P} old made n client connection (absent law) in omega arith);
       rows = λ law n. (let more = rows_begun {E = E} {P = P} old made n (new_row client connection) (absent law) in let next = below_next made n in omega arith);
     }
@@ -144,23 +148,41 @@ does_begin : {E P : Type 0} (old : Rows E P) (made : ℕ) (client : List ℕ) (c
     → Does old (map.insert old made (new_row client connection)) made (made + 1) (λ n. once n session + 0) zero_each zero_each
 does_begin old made client connection session none room is =
     as_often old (map.insert old made (new_row client connection)) made (made + 1) (λ n. cond (nat_eq made n) 1 0) zero_each zero_each (λ n. once n session + 0) zero_each zero_each
-    (begins old made client connection (λ law. none) (λ law. room))
+    (begins old made client connection (λ law. none) (λ law. (let less = living_within old in omega arith)) (λ law. omega arith))
     (λ law n. (let o = once_at made n session (ap (λ s. s.identity.number) is) in omega arith)) (λ law n. refl) (λ law n. refl)
 
--- and of one whose parked session ends
-does_begin_over : {E P : Type 0} (old : Rows E P) (made k : ℕ) (client : List ℕ) (connection : ℕ) (row : Row E P) (session ended : Session E P) → HasRow old k row → row.client ≡ client
-    → row.held_by ≡ Parked ended → map.len old < 256 → session ≡ new_session (record { number = made; client = client })
+-- where a parked session ends for it
+does_begin_over : {E P : Type 0} (old : Rows E P) (made k : ℕ) (client : List ℕ) (connection : ℕ) (row : Row E P) (session ended : Session E P) → HasRow old k row
+    → row.held_by ≡ Parked ended → (DeskLaw old made → NoneLivesAs (map.insert old k (away row.client)) client) → map.len old < 512 → session ≡ new_session (record { number = made; client = client })
     → Does old (map.insert (map.insert old k (away row.client)) made (new_row client connection)) made (made + 1) (λ n. once n session + once n ended) zero_each zero_each
-does_begin_over {E} {P} old made k client connection row session ended has its stands room is =
+does_begin_over {E} {P} old made k client connection row session ended has stands none fits is =
     let mid : Rows E P = map.insert old k (away row.client) in
     let gives : Does old mid made made (λ n. once n ended) zero_each zero_each = as_often old mid made made (λ n. cond (nat_eq k n) 1 0) (λ n. cond (nat_eq k n) 0 0) zero_each (λ n. once n ended) zero_each zero_each
     (moves old made k row (away row.client) 0 1 has refl (λ e. absurd (false_true e)) (λ law s e. absurd (none_some s e)) (λ law s e. absurd (let f = e in cc)) (let o = ap out_of stands in omega arith))
     (λ law n. once_at k n ended (number_in old made k row ended law has (ap session_in stands))) (λ law n. sym (nothing (nat_eq k n))) (λ law n. refl) in
+    let lived : living_row row ≡ 1 = ap (λ (h : Holder E P). cond (is_living h) 1 0) stands in
     as_lawful old (map.insert mid made (new_row client connection)) made (made + 1) (λ n. once n session + once n ended) (λ law.
     as_often old (map.insert mid made (new_row client connection)) made (made + 1) (λ n. once n ended + cond (nat_eq made n) 1 0) zero_each zero_each (λ n. once n session + once n ended) zero_each zero_each
     (then_does old mid (map.insert mid made (new_row client connection)) made made (made + 1) (λ n. once n ended) (λ n. cond (nat_eq made n) 1 0) gives
-    (begins mid made client connection (λ _. subst (NoneLivesAs mid) its (none_lives old made k row law has (ap is_living stands))) (λ _. (let same = len_same old k row (away row.client) has in omega arith))))
+    (begins mid made client connection (λ _. none law) (λ _. (let moved = living_moved old k row (away row.client) has in let few = law.few in omega arith)) (λ _. (let same = len_same old k row (away row.client) has in omega arith))))
     (λ _ n. (let o = once_at made n session (ap (λ s. s.identity.number) is) in omega arith)) (λ _ n. refl) (λ _ n. refl))
+
+pub has_space : {E P : Type 0} (newcomers : Newcomers) (rows : Rows E P) → HasSpace newcomers rows → map.len rows < 256
+has_space IfRoom rows room = room
+has_space Displace rows room = room
+has_space Refused rows room = absurd room
+
+-- what a client gets that has no session
+does_newcomer : {E P : Type 0} (newcomers : Newcomers) (old new : Books E P) (client : List ℕ) (connection : ℕ) (session : Session E P) (ended : Option (Session E P))
+    → Begins newcomers old client connection (Ok (New session ended)) new
+    → Does old.rows new.rows old.made new.made (λ n. once n session + once_in n ended) zero_each zero_each
+does_newcomer newcomers old new client connection session None h =
+    subst (λ b. Does old.rows b.rows old.made b.made (λ n. once n session + 0) zero_each zero_each) (sym h.after)
+    (does_begin old.rows old.made client connection session h.none (has_space newcomers old.rows h.room) h.is)
+does_newcomer newcomers old new client connection session (Some ended) h =
+    let longest = h.goes.longest in
+    subst (λ b. Does old.rows b.rows old.made b.made (λ n. once n session + once n ended) zero_each zero_each) (sym h.after)
+    (does_begin_over old.rows old.made h.number client connection h.row session ended longest.has longest.stands (λ _. still_none old.rows h.number client h.row.client h.none) h.fits h.is)
 
 along : {E P : Type 0} (old new target : Books E P) (out taken ended : ℕ → ℕ) → new ≡ target → Does old.rows target.rows old.made target.made out taken ended
     → Does old.rows new.rows old.made new.made out taken ended
@@ -188,57 +210,56 @@ ends old new session back is h =
     (λ law n. ap (once n) is) (λ law n. refl) (λ law n. refl))
 
 -- for a client with an identifier
-does_client : {E P : Type 0} (old new : Books E P) (client : List ℕ) (request : Request) (answer : Result (Attached E P) DeskError) → AttachesClient old client request answer new
+does_client : {E P : Type 0} (newcomers : Newcomers) (old new : Books E P) (client : List ℕ) (request : Request) (answer : Result (Attached E P) DeskError) → AttachesClient newcomers old client request answer new
     → Does old.rows new.rows old.made new.made (λ n. attached_out n answer) zero_each zero_each
-does_client old new client request (Ok (New session None)) h =
-    subst (λ b. Does old.rows b.rows old.made b.made (λ n. once n session + 0) zero_each zero_each) (sym h.after)
-    (does_begin old.rows old.made client request.connection session h.none h.is_new.room h.is_new.is)
-does_client old new client request (Ok (New session (Some ended))) h =
+does_client newcomers old new client request (Ok (New session None)) h = does_newcomer newcomers old new client request.connection session None h
+does_client newcomers old new client request (Ok (New session (Some ended))) (inl h) =
     subst (λ b. Does old.rows b.rows old.made b.made (λ n. once n session + once n ended) zero_each zero_each) (sym h.after)
-    (does_begin_over old.rows old.made h.number client request.connection h.row session ended h.its.has h.its.its h.its.stands h.is_new.room h.is_new.is)
-does_client old new client request (Ok (Resumed session)) h =
+    (does_begin_over old.rows old.made h.number client request.connection h.row session ended h.its.has h.its.stands
+    (λ law. subst (NoneLivesAs (map.insert old.rows h.number (away h.row.client))) h.its.its (none_lives old.rows old.made h.number h.row law h.its.has (ap is_living h.its.stands))) h.fits h.is)
+does_client newcomers old new client request (Ok (New session (Some ended))) (inr h) = does_newcomer newcomers old new client request.connection session (Some ended) h
+does_client newcomers old new client request (Ok (Resumed session)) h =
     let after = with_holder h.row (Lent request.connection) in
     subst (λ b. Does old.rows b.rows old.made b.made (λ n. once n session) zero_each zero_each) (sym h.after)
     (as_often old.rows (map.insert old.rows h.number after) old.made old.made (λ n. cond (nat_eq h.number n) 1 0) (λ n. cond (nat_eq h.number n) 0 0) zero_each (λ n. once n session) zero_each zero_each
     (moves old.rows old.made h.number h.row after 0 1 h.its.has refl (λ e. ap is_living h.its.stands) (λ law s e. absurd (none_some s e)) (λ law s e. absurd (let f = e in cc)) (let o = ap out_of h.its.stands in omega arith))
     (λ law n. once_at h.number n session (number_in old.rows old.made h.number h.row session law h.its.has (ap session_in h.its.stands))) (λ law n. sym (nothing (nat_eq h.number n))) (λ law n. refl))
-does_client old new client request (Ok (Replace holder)) h =
+does_client newcomers old new client request (Ok (Replace holder)) h =
     let after = with_wait h.row request.connection in
     subst (λ b. Does old.rows b.rows old.made b.made zero_each zero_each zero_each) (sym h.after)
     (as_often old.rows (map.insert old.rows h.number after) old.made old.made (λ n. cond (nat_eq h.number n) 0 0) (λ n. cond (nat_eq h.number n) 0 0) zero_each zero_each zero_each zero_each
     (moves old.rows old.made h.number h.row after 0 0 h.its.has refl (λ e. e) (λ law s e. law.own h.number h.row s h.its.has e) (λ law s e. law.not_ending h.number h.row s h.its.has e) refl)
     (λ law n. sym (nothing (nat_eq h.number n))) (λ law n. sym (nothing (nat_eq h.number n))) (λ law n. refl))
-does_client old new client request (Ok Busy) h = unchanged old new zero_each h.1
-does_client old new client request (Err Full) h = unchanged old new zero_each h.2
-does_client old new client request (Err Memory) h = unchanged old new zero_each h.2
-does_client old new client request (Err NoPlace) h = absurd h
-does_client old new client request (Err NoName) h = absurd h
+does_client newcomers old new client request (Ok Busy) h = unchanged old new zero_each h.1
+does_client newcomers old new client request (Err Full) h = unchanged old new zero_each h.2
+does_client newcomers old new client request (Err Memory) h = unchanged old new zero_each h.1
+does_client newcomers old new client request (Err NoPlace) h = absurd h
+does_client newcomers old new client request (Err NoName) h = absurd h
 
 -- for one without
-does_unnamed : {E P : Type 0} (old new : Books E P) (request : Request) (answer : Result (Attached E P) DeskError) → AttachesUnnamed old request.connection answer new
+does_unnamed : {E P : Type 0} (newcomers : Newcomers) (old new : Books E P) (request : Request) (answer : Result (Attached E P) DeskError) → AttachesUnnamed newcomers old request.connection answer new
     → Does old.rows new.rows old.made new.made (λ n. attached_out n answer) zero_each zero_each
-does_unnamed old new request (Ok (New session None)) h =
-    subst (λ b. Does old.rows b.rows old.made b.made (λ n. once n session + 0) zero_each zero_each) (sym h.after)
-    (does_begin old.rows old.made (assigned_name h.number) request.connection session (λ n row has lives. h.next.unused (n, row, has, lives.its)) h.is_new.room h.is_new.is)
-does_unnamed old new request (Ok (New session (Some ended))) h = absurd h
-does_unnamed old new request (Ok (Resumed session)) h = absurd h
-does_unnamed old new request (Ok (Replace holder)) h = absurd h
-does_unnamed old new request (Ok Busy) h = absurd h
-does_unnamed old new request (Err Full) h = unchanged old new zero_each h.2
-does_unnamed old new request (Err Memory) h = unchanged old new zero_each h.2
-does_unnamed old new request (Err NoPlace) h = absurd h
-does_unnamed old new request (Err NoName) h = unchanged old new zero_each h.1
+does_unnamed newcomers old new request (Ok (New session ended)) h =
+    subst (λ b. Does old.rows b.rows old.made b.made (λ n. once n session + once_in n ended) zero_each zero_each) (sym h.after)
+    (does_newcomer newcomers old h.mid (assigned_name h.number) request.connection session ended h.begins)
+does_unnamed newcomers old new request (Ok (Resumed session)) h = absurd h
+does_unnamed newcomers old new request (Ok (Replace holder)) h = absurd h
+does_unnamed newcomers old new request (Ok Busy) h = absurd h
+does_unnamed newcomers old new request (Err Full) h = unchanged old new zero_each h.2
+does_unnamed newcomers old new request (Err Memory) h = unchanged old new zero_each h.2
+does_unnamed newcomers old new request (Err NoPlace) h = absurd h
+does_unnamed newcomers old new request (Err NoName) h = unchanged old new zero_each h.1
 
-does_attach : {E P : Type 0} (client : List ℕ) (old new : Books E P) (request : Request) (answer : Result (Attached E P) DeskError) → attaches_by client old request answer new
+does_attach : {E P : Type 0} (newcomers : Newcomers) (client : List ℕ) (old new : Books E P) (request : Request) (answer : Result (Attached E P) DeskError) → attaches_by newcomers client old request answer new
     → Does old.rows new.rows old.made new.made (λ n. attached_out n answer) zero_each zero_each
-does_attach [] old new request answer h = does_unnamed old new request answer h
-does_attach (byte ∷ bytes) old new request answer h = does_client old new (byte ∷ bytes) request answer h
+does_attach newcomers [] old new request answer h = does_unnamed newcomers old new request answer h
+does_attach newcomers (byte ∷ bytes) old new request answer h = does_client newcomers old new (byte ∷ bytes) request answer h
 
 module _ {P : Type 0} (cell : P → ℕ) where
   -- each call
   does_call : {E : Type 0} (old new : Books E P) (call : Call E P) → IsAllowed call → Makes cell old call new
       → Does old.rows new.rows old.made new.made (λ n. handed_out n call) (λ n. handed_in n call) (λ n. buried n call)
-  does_call old new (Attach request answer) may made = does_attach request.client old new request answer made
+  does_call old new (Attach newcomers request answer) may made = does_attach newcomers request.client old new request answer made
   does_call old new (Withdraw connection) may made = subst (λ b. Does old.rows b.rows old.made b.made zero_each zero_each zero_each) (sym made) (stays old.rows old.rows old.made zero_each refl)
   does_call old new (Kicked connection answer) may made = unchanged old new zero_each made.1
   does_call old new (Park session now None) may made =
@@ -318,7 +339,8 @@ no_row {E} {P} n row has = let none = get-empty {X = Row E P} nat_cmp n in cc
 pub law_new : {E P : Type 0} → DeskLaw {E = E} {P = P} map.empty 0
 law_new {E} {P} =
     record {
-      few = (let none = len-empty nat_cmp (Row E P) in omega arith);
+      few = (let none = none_living E P in omega arith);
+      fit = (let none = len-empty nat_cmp (Row E P) in omega arith);
       made_before = λ n row has. absurd (no_row n row has);
       one_each = λ n m row their has here living alive same. absurd (no_row n row has);
       own = λ n row session has inside. absurd (no_row n row has);

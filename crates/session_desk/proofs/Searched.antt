@@ -6,11 +6,15 @@ use Rattle.std.specs.Map.{keys_of}
 use Rattle.std.specs.Cmp.{nat_eq_equiv}
 use Rattle.std.proofs.lemmas.Map.Entries.{place_from_lookup, lookup_from_place}
 use Rattle.std.proofs.lemmas.Option.{slice_get_within}
-use Rattle.std.proofs.lemmas.Bool.{eqb-true, cases_eq}
+use Rattle.std.proofs.lemmas.Bool.{eqb-true, cases_eq, cases_lt}
 use Rattle.std.specs.FinMap as map
 use Rattle.session_desk.specs.declared.row.Row.{Row}
 use Rattle.session_desk.specs.declared.row.Holder.TheVariants.{Parked, Kept}
+use Rattle.session_desk.specs.declared.session.Session.{Session}
 use Rattle.session_desk.specs.declared.sweeping.Due.{Due}
+use Rattle.session_desk.specs.declared.sweeping.Due.TheVariants as due
+use Rattle.session_desk.specs.Sessions.{parked_from}
+use Rattle.session_desk.specs.Idle.{IsIdleIn, IsIdleFrom, IsFirstIdle, IsParkedLongest}
 use Rattle.session_desk.specs.Rows.{Rows, HasRow, IsKept, IsOverdue, NoRow, IsOldest}
 use Rattle.session_desk.specs.Names.{HasName}
 use Rattle.session_desk.specs.Sweeping.{Fits, HandsOut, SweepsNothing}
@@ -158,4 +162,97 @@ nothing_due rows now kept over (Some session) after swept =
     (λ (h : HandsOut rows IsKept (Kept session) after). kept h.number h.oldest.row h.oldest.has h.oldest.is_so)
     (λ (h : NoRow rows IsKept × HandsOut rows (IsOverdue now) (Parked session) after). over h.1.number h.1.oldest.row h.1.oldest.has h.1.oldest.is_so)
     swept
+    )
+
+-- the first moment so far among the first rows, as many as i
+pub record First {E P : Type 0} (es : List (ℕ × Row E P)) (i : ℕ) (first : Option ℕ) : Type 0 where
+  pub below : (k moment : ℕ) (e : ℕ × Row E P) → k < i → slice_get es k ≡ Some e → IsIdleFrom e.1 moment → (n : ℕ) × (first ≡ Some n) × (n ≤ moment)
+  pub found : (n : ℕ) → first ≡ Some n → (k : ℕ) × (e : ℕ × Row E P) × (slice_get es k ≡ Some e) × IsIdleFrom e.1 n
+
+same_parked : {E P : Type 0} (a b : Session E P) → Parked a ≡ Parked b → a ≡ b
+same_parked a b e = cc
+
+one_moment : {E P : Type 0} (row : Row E P) (m n : ℕ) → IsIdleFrom row m → IsIdleFrom row n → m ≡ n
+one_moment row m n one other = sym one.3 ∙ ap (λ s. parked_from s.expiry) (same_parked one.0 other.0 (sym one.1 ∙ other.1)) ∙ other.3
+
+pub first_begin : {E P : Type 0} (es : List (ℕ × Row E P)) → First es 0 None
+first_begin es = record { below = λ k moment e less. absurd (omega arith); found = λ n is. absurd (let e = is in cc) }
+
+pub first_skip : {E P : Type 0} (es : List (ℕ × Row E P)) (i : ℕ) (first : Option ℕ) (f : ℕ × Row E P) → First es i first → slice_get es i ≡ Some f → ¬ IsIdleIn f.1
+    → First es (i + 1) first
+first_skip es i first f so here not =
+    record {
+      below = λ k moment e less at idle.
+          ⊎_elim (λ (before : k < i). so.below k moment e before at idle) (λ (same : f ≡ e). absurd (not (subst (λ t. IsIdleIn t.1) (sym same) (idle.0, idle.1, idle.2)))) (step es i k e f less at here);
+      found = so.found;
+    }
+
+pub first_take : {E P : Type 0} (es : List (ℕ × Row E P)) (i moment : ℕ) (first : Option ℕ) (f : ℕ × Row E P) → First es i first → slice_get es i ≡ Some f → IsIdleFrom f.1 moment
+    → First es (i + 1) (Some (option_map_or (λ least. min least moment) first moment))
+first_take es i moment first f so here idle =
+    let less : ℕ = option_map_or (λ least. min least moment) first moment in
+    record {
+      below = λ k m e near at its. (
+        less,
+        refl,
+        ⊎_elim
+            (λ (before : k < i). let old = so.below k m e before at its in let l = lesser_than first old.0 moment old.1 in let m = old.2 in omega arith)
+            (λ (same : f ≡ e). let one = one_moment e.1 moment m (subst (λ t. IsIdleFrom t.1 moment) same idle) its in let l = lesser_here first moment in omega arith)
+            (step es i k e f near at here),
+      );
+      found = λ n is.
+          let same : less ≡ n = (let e = is in cc) in
+          ⊎_elim
+          (λ (own : less ≡ moment). (i, f, here, subst (IsIdleFrom f.1) (sym own ∙ same) idle))
+          (λ (old : first ≡ Some less). so.found n (old ∙ ap Some same))
+          (lesser_from first moment);
+    }
+
+none_idle : {E P : Type 0} (es : List (ℕ × Row E P)) → First es (length es) None → NoRow (seen es) IsIdleIn
+none_idle es so n row has idle =
+    let at = place es n row has in
+    let old = so.below at.0 (parked_from idle.0.expiry) (n, row) (slice_get_within es at.0 (n, row) at.1) at.1 (idle.0, idle.1, idle.2, refl) in
+    let is = old.1 in cc
+
+first_is : {E P : Type 0} (es : List (ℕ × Row E P)) (moment : ℕ) → IsDistinct nat_eq (keys_of es) → First es (length es) (Some moment) → IsFirstIdle (seen es) moment
+first_is es moment distinct so =
+    let f = so.found moment refl in
+    record {
+      number = f.1.0;
+      row = f.1.1;
+      has = get_seen es f.1.0 ∙ lookup_from_place nat_eq_equiv es f.0 f.1.0 f.1.1 distinct f.2;
+      idle = f.3;
+      first = λ other m row has idle.
+          let at = place es other row has in
+          let old = so.below at.0 m (other, row) (slice_get_within es at.0 (other, row) at.1) at.1 idle in
+          let same : moment ≡ old.0 = (let e = old.1 in cc) in
+          let less = old.2 in omega arith;
+    }
+
+pub first_end : {E P : Type 0} (es : List (ℕ × Row E P)) (first : Option ℕ) → IsDistinct nat_eq (keys_of es) → First es (length es) first
+    → MatchOption first (NoRow (seen es) IsIdleIn) (IsFirstIdle (seen es))
+first_end es None distinct so = none_idle es so
+first_end es (Some n) distinct so = first_is es n distinct so
+
+-- of those that were parked at the first moment the oldest has been parked longest
+pub longest_end : {E P : Type 0} (rows : Rows E P) (moment : ℕ) (oldest : Option ℕ) → IsFirstIdle rows moment → MatchOption oldest (NoRow rows (Fits (due.IdleSince moment))) (IsOldest rows (Fits (due.IdleSince moment)))
+    → MatchOption oldest (NoRow rows IsIdleIn) (λ number. (row : Row E P) × (session : Session E P) × IsParkedLongest rows number row session)
+longest_end rows moment None first none =
+    let idle = first.idle in absurd (none first.number first.row first.has (idle.0, idle.1, idle.2, (let same = idle.3 in omega arith)))
+longest_end rows moment (Some n) first oldest =
+    let its = oldest.is_so in (
+      oldest.row,
+      its.0,
+      record {
+        has = oldest.has;
+        stands = its.1;
+        idle = its.2;
+        longest = λ other their theirs has stands idle.
+            let later = first.first other (parked_from theirs.expiry) their has (theirs, stands, idle, refl) in
+            let sooner = its.3 in
+            ⊎_elim
+            (λ (less : parked_from its.0.expiry < parked_from theirs.expiry). inl less)
+            (λ (more : parked_from theirs.expiry ≤ parked_from its.0.expiry). inr ((let l = later in omega arith), oldest.least other their has (theirs, stands, idle, (let l = sooner in omega arith))))
+            (cases_lt (parked_from its.0.expiry) (parked_from theirs.expiry));
+      },
     )

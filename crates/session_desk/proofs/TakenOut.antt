@@ -36,7 +36,7 @@ put_by F k v e es none more Greater p =
     omega arith
 
 -- an entry with a new key is put among the others
-sum_put : {X : Type 0} (F : ℕ × X → ℕ) (k : ℕ) (v : X) (es : List (ℕ × X)) → map.find nat_cmp k es ≡ None → sum_by F (map.put nat_cmp k v es) ≡ F (k, v) + sum_by F es
+pub sum_put : {X : Type 0} (F : ℕ × X → ℕ) (k : ℕ) (v : X) (es : List (ℕ × X)) → map.find nat_cmp k es ≡ None → sum_by F (map.put nat_cmp k v es) ≡ F (k, v) + sum_by F es
 sum_put F k v [] none = omega arith
 sum_put {X} F k v (e ∷ es) none = put_by F k v e es none (λ p. sum_put F k v es p) (nat_cmp k e.0) refl
 

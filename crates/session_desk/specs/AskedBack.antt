@@ -23,12 +23,12 @@ IsReplace connection (Err error) = ⊥
 
 -- a call that lends a session to this connection
 abbrev pub LendsTo : {E P : Type 0} → ℕ → Call E P → Type 0
-LendsTo connection (Attach request answer) = (request.connection ≡ connection) × IsLoan answer
+LendsTo connection (Attach newcomers request answer) = (request.connection ≡ connection) × IsLoan answer
 LendsTo connection _ = ⊥
 
 -- a call that asks it for its session: Replace is answered to another
 abbrev pub AsksBack : {E P : Type 0} → ℕ → Call E P → Type 0
-AsksBack connection (Attach request answer) = IsReplace connection answer
+AsksBack connection (Attach newcomers request answer) = IsReplace connection answer
 AsksBack connection _ = ⊥
 
 -- none of these calls lends it a session

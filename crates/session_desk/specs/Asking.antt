@@ -8,7 +8,7 @@ use Rattle.session_desk.specs.Calls.{Call, Attach, Withdraw, Kicked, Park, ParkA
 
 -- another call asks the same: it has the same arguments, and its own answer
 abbrev pub IsSameQuestion : {E P : Type 0} → Call E P → Call E P → Type 0
-IsSameQuestion {E} {P} (Attach request answer) other = (its : Result (Attached E P) DeskError) × (other ≡ Attach request its)
+IsSameQuestion {E} {P} (Attach newcomers request answer) other = (its : Result (Attached E P) DeskError) × (other ≡ Attach newcomers request its)
 IsSameQuestion (Withdraw connection) other = other ≡ Withdraw connection
 IsSameQuestion (Kicked connection answer) other = (its : Bool) × (other ≡ Kicked connection its)
 IsSameQuestion {E} {P} (Park session now answer) other = (its : Option (Session E P)) × (other ≡ Park session now its)
@@ -21,5 +21,5 @@ IsSameQuestion {E} {P} (TakePlace place answer) other = (its : Option P) × (oth
 
 -- it did not want memory
 abbrev pub HadMemory : {E P : Type 0} → Call E P → Type 0
-HadMemory (Attach request answer) = answer ≢ Err Memory
+HadMemory (Attach newcomers request answer) = answer ≢ Err Memory
 HadMemory _ = ⊤

@@ -1,10 +1,11 @@
 -- What a connection gets that asks for a session of a client, in each case with its whole condition.
-use Rattle.std.specs.Prelude.{◌≡◌, ◌≢◌, ◌⊎◌, ℕ, ◌<◌, Bool, true, List, [], ◌∷◌, Some, None, Result, Ok, Err}
+use Rattle.std.specs.Prelude.{◌≡◌, ◌≢◌, ◌⊎◌, ℕ, ◌<◌, Bool, true, List, [], ◌∷◌, Option, Some, None, Result, Ok, Err}
 use Rattle.std.specs.FinMap as map
 use Rattle.session_desk.specs.declared.attached.Attached.{Attached}
 use Rattle.session_desk.specs.declared.attached.Attached.TheVariants.{New, Resumed, Replace, Busy}
 use Rattle.session_desk.specs.declared.error.DeskError.{DeskError}
 use Rattle.session_desk.specs.declared.error.DeskError.TheVariants as errors
+use Rattle.session_desk.specs.declared.newcomers.Newcomers.{Newcomers}
 use Rattle.session_desk.specs.declared.session.Session.{Session}
 use Rattle.session_desk.specs.declared.row.Row.{Row}
 use Rattle.session_desk.specs.declared.row.Holder.{Holder}
@@ -12,6 +13,7 @@ use Rattle.session_desk.specs.declared.row.Holder.TheVariants.{Lent, Parked}
 use Rattle.session_desk.specs.Sessions.{IsOver}
 use Rattle.session_desk.specs.Rows.{HasRow, NoneLivesAs}
 use Rattle.session_desk.specs.Names.{assigned_name, IsNextName, NoNameLeft}
+use Rattle.session_desk.specs.Newcomers.{HasRoom, BeginsFirst, Displaces, Begins}
 use Rattle.session_desk.specs.Books.{Books, IsWaiting, new_session, after_new, after_name, after_lend, after_replace, after_end}
 
 -- what a connection asks for: its number, its client's identifier, Clean Start (3.1.2.4), and the moment in milliseconds
@@ -43,20 +45,9 @@ pub record HasStale {E P : Type 0} (b : Books E P) (client : List ℕ) (request 
   pub its : IsClients b client number row (Parked session)
   pub stale : IsStale session request.clean request.now
 
--- a new session is wanted: the client has none, or a parked one that is to end
-abbrev pub WantsNew : {E P : Type 0} → Books E P → List ℕ → Request → Type 0
-WantsNew b client request = NoneLivesAs b.rows client ⊎ HasStale b client request
-
--- there is room for a new session, and this is it
-pub record IsNew {E P : Type 0} (b : Books E P) (client : List ℕ) (session : Session E P) : Type 0 where
-  pub room : map.len b.rows < 256
-  pub is : session ≡ new_session (record { number = b.made; client = client })
-
--- the client had no session
-pub record BeginsFirst {E P : Type 0} (old : Books E P) (client : List ℕ) (connection : ℕ) (session : Session E P) (new : Books E P) : Type 0 where
-  pub none : NoneLivesAs old.rows client
-  pub is_new : IsNew old client session
-  pub after : new ≡ after_new old client connection
+-- a new session is wanted, and has room: the client has none, and there is room for a newcomer's, or it has a parked one that is to end
+abbrev pub WantsNew : {E P : Type 0} → Newcomers → Books E P → List ℕ → Request → Type 0
+WantsNew newcomers b client request = (NoneLivesAs b.rows client × HasRoom newcomers b.rows) ⊎ HasStale b client request
 
 -- the client had this session, which ends
 pub record BeginsOver {E P : Type 0} (old : Books E P) (client : List ℕ) (request : Request) (session ended : Session E P) (new : Books E P) : Type 0 where
@@ -64,7 +55,8 @@ pub record BeginsOver {E P : Type 0} (old : Books E P) (client : List ℕ) (requ
   pub row : Row E P
   pub its : IsClients old client number row (Parked ended)
   pub stale : IsStale ended request.clean request.now
-  pub is_new : IsNew old client session
+  pub fits : map.len old.rows < 512
+  pub is : session ≡ new_session (record { number = old.made; client = client })
   pub after : new ≡ after_new (after_end old number row) client request.connection
 
 -- the client has this session back
@@ -93,43 +85,44 @@ pub record IsBusy {E P : Type 0} (old : Books E P) (client : List ℕ) (request 
   pub waits : IsWaiting old number row other
   pub another : other ≢ request.connection
 
--- for a client with this identifier
-abbrev pub AttachesClient : {E P : Type 0} → Books E P → List ℕ → Request → Result (Attached E P) DeskError → Books E P → Type 0
-AttachesClient old client request (Ok (New session None)) new = BeginsFirst old client request.connection session new
-AttachesClient old client request (Ok (New session (Some ended))) new = BeginsOver old client request session ended new
-AttachesClient old client request (Ok (Resumed session)) new = Resumes old client request session new
-AttachesClient old client request (Ok (Replace holder)) new = Replaces old client request holder new
-AttachesClient old client request (Ok Busy) new = IsBusy old client request × (new ≡ old)
-AttachesClient old client request (Err errors.Full) new = WantsNew old client request × (map.len old.rows ≡ 256) × (new ≡ old)
-AttachesClient old client request (Err errors.Memory) new = WantsNew old client request × (map.len old.rows < 256) × (new ≡ old)
-AttachesClient old client request (Err errors.NoPlace) new = ⊥
-AttachesClient old client request (Err errors.NoName) new = ⊥
+-- for a client with an identifier
+abbrev pub AttachesClient : {E P : Type 0} → Newcomers → Books E P → List ℕ → Request → Result (Attached E P) DeskError → Books E P → Type 0
+AttachesClient newcomers old client request (Ok (New session None)) new = BeginsFirst newcomers old client request.connection session new
+AttachesClient newcomers old client request (Ok (New session (Some ended))) new =
+    BeginsOver old client request session ended new ⊎ Displaces newcomers old client request.connection session ended new
+AttachesClient newcomers old client request (Ok (Resumed session)) new = Resumes old client request session new
+AttachesClient newcomers old client request (Ok (Replace holder)) new = Replaces old client request holder new
+AttachesClient newcomers old client request (Ok Busy) new = IsBusy old client request × (new ≡ old)
+AttachesClient newcomers old client request (Err errors.Full) new = NoneLivesAs old.rows client × (¬ HasRoom newcomers old.rows) × (new ≡ old)
+AttachesClient newcomers old client request (Err errors.Memory) new = WantsNew newcomers old client request × (new ≡ old)
+AttachesClient newcomers old client request (Err errors.NoPlace) new = ⊥
+AttachesClient newcomers old client request (Err errors.NoName) new = ⊥
 
 -- the client is given the next name, and a new session
-pub record Names {E P : Type 0} (old : Books E P) (connection : ℕ) (session : Session E P) (new : Books E P) : Type 0 where
+pub record Names {E P : Type 0} (newcomers : Newcomers) (old : Books E P) (connection : ℕ) (session : Session E P) (ended : Option (Session E P)) (new : Books E P) : Type 0 where
   pub number : ℕ
   pub next : IsNextName old.rows old.assigned number
-  pub is_new : IsNew old (assigned_name number) session
-  pub after : new ≡ after_name (after_new old (assigned_name number) connection) number
+  pub mid : Books E P
+  pub begins : Begins newcomers old (assigned_name number) connection (Ok (New session ended)) mid
+  pub after : new ≡ after_name mid number
 
 abbrev pub HasNextName : {E P : Type 0} → Books E P → Type 0
 HasNextName old = (number : ℕ) × IsNextName old.rows old.assigned number
 
 -- for a client without an identifier (3.1.3.1)
-abbrev pub AttachesUnnamed : {E P : Type 0} → Books E P → ℕ → Result (Attached E P) DeskError → Books E P → Type 0
-AttachesUnnamed old connection (Ok (New session None)) new = Names old connection session new
-AttachesUnnamed old connection (Ok (New session (Some ended))) new = ⊥
-AttachesUnnamed old connection (Ok (Resumed session)) new = ⊥
-AttachesUnnamed old connection (Ok (Replace holder)) new = ⊥
-AttachesUnnamed old connection (Ok Busy) new = ⊥
-AttachesUnnamed old connection (Err errors.NoName) new = NoNameLeft old.rows old.assigned × (new ≡ old)
-AttachesUnnamed old connection (Err errors.Full) new = HasNextName old × (map.len old.rows ≡ 256) × (new ≡ old)
-AttachesUnnamed old connection (Err errors.Memory) new = HasNextName old × (map.len old.rows < 256) × (new ≡ old)
-AttachesUnnamed old connection (Err errors.NoPlace) new = ⊥
+abbrev pub AttachesUnnamed : {E P : Type 0} → Newcomers → Books E P → ℕ → Result (Attached E P) DeskError → Books E P → Type 0
+AttachesUnnamed newcomers old connection (Ok (New session ended)) new = Names newcomers old connection session ended new
+AttachesUnnamed newcomers old connection (Ok (Resumed session)) new = ⊥
+AttachesUnnamed newcomers old connection (Ok (Replace holder)) new = ⊥
+AttachesUnnamed newcomers old connection (Ok Busy) new = ⊥
+AttachesUnnamed newcomers old connection (Err errors.NoName) new = NoNameLeft old.rows old.assigned × (new ≡ old)
+AttachesUnnamed newcomers old connection (Err errors.Full) new = HasNextName old × (¬ HasRoom newcomers old.rows) × (new ≡ old)
+AttachesUnnamed newcomers old connection (Err errors.Memory) new = HasNextName old × HasRoom newcomers old.rows × (new ≡ old)
+AttachesUnnamed newcomers old connection (Err errors.NoPlace) new = ⊥
 
-abbrev pub attaches_by : {E P : Type 0} → List ℕ → Books E P → Request → Result (Attached E P) DeskError → Books E P → Type 0
-attaches_by [] old request answer new = AttachesUnnamed old request.connection answer new
-attaches_by (byte ∷ bytes) old request answer new = AttachesClient old (byte ∷ bytes) request answer new
+abbrev pub attaches_by : {E P : Type 0} → Newcomers → List ℕ → Books E P → Request → Result (Attached E P) DeskError → Books E P → Type 0
+attaches_by newcomers [] old request answer new = AttachesUnnamed newcomers old request.connection answer new
+attaches_by newcomers (byte ∷ bytes) old request answer new = AttachesClient newcomers old (byte ∷ bytes) request answer new
 
-abbrev pub Attaches : {E P : Type 0} → Books E P → Request → Result (Attached E P) DeskError → Books E P → Type 0
-Attaches old request answer new = attaches_by request.client old request answer new
+abbrev pub Attaches : {E P : Type 0} → Newcomers → Books E P → Request → Result (Attached E P) DeskError → Books E P → Type 0
+Attaches newcomers old request answer new = attaches_by newcomers request.client old request answer new

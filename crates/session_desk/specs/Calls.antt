@@ -2,6 +2,7 @@
 use Rattle.std.specs.Prelude.{◌≡◌, ℕ, ◌<◌, ◌≤◌, ◌↔◌, Bool, false, List, [], ◌∷◌, length, Option, Result, IsTrue}
 use Rattle.session_desk.specs.declared.attached.Attached.{Attached}
 use Rattle.session_desk.specs.declared.error.DeskError.{DeskError}
+use Rattle.session_desk.specs.declared.newcomers.Newcomers.{Newcomers}
 use Rattle.session_desk.specs.declared.session.Session.{Session}
 use Rattle.session_desk.specs.Rows.{Rows}
 use Rattle.session_desk.specs.Books.{Books, IsKicked, with_rows, with_free, after_withdraw}
@@ -12,7 +13,7 @@ use Rattle.session_desk.specs.Sweeping.{Sweeps}
 
 -- a call of a desk, with its arguments and its answer
 pub data Call (E P : Type 0) : Type 0 where
-  Attach : (request : Request) → (answer : Result (Attached E P) DeskError) → Call E P
+  Attach : (newcomers : Newcomers) → (request : Request) → (answer : Result (Attached E P) DeskError) → Call E P
   Withdraw : (connection : ℕ) → Call E P
   Kicked : (connection : ℕ) → (answer : Bool) → Call E P
   Park : (session : Session E P) → (now : ℕ) → (answer : Option (Session E P)) → Call E P
@@ -25,7 +26,7 @@ pub data Call (E P : Type 0) : Type 0 where
 
 -- what a call needs of its caller
 abbrev pub IsAllowed : {E P : Type 0} → Call E P → Type 0
-IsAllowed (Attach request answer) = (request.connection < 1024) × (length request.client ≤ 128)
+IsAllowed (Attach newcomers request answer) = (request.connection < 1024) × (length request.client ≤ 128)
 IsAllowed (Park session now answer) = session.window.retired ≡ false
 IsAllowed (ParkAsIs session answer) = session.window.retired ≡ false
 IsAllowed (Withdraw connection) = Unit {0}
@@ -39,7 +40,7 @@ IsAllowed (TakePlace place answer) = Unit {0}
 module _ {P : Type 0} (cell : P → ℕ) where
   -- what a call makes of the books; each place has a cell
   abbrev pub Makes : {E : Type 0} → Books E P → Call E P → Books E P → Type 0
-  Makes old (Attach request answer) new = Attaches old request answer new
+  Makes old (Attach newcomers request answer) new = Attaches newcomers old request answer new
   Makes old (Withdraw connection) new = new ≡ after_withdraw old connection
   Makes old (Kicked connection answer) new = (IsTrue answer ↔ IsKicked old connection) × (new ≡ old)
   Makes old (Park session now answer) new = Parks old session now answer new

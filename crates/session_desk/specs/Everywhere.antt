@@ -46,7 +46,7 @@ module _ {E P : Type 0} (Holds : Session E P → Type 0) (Fits : P → Type 0) w
   IsAttachedSo (Err error) = ⊤
 
   abbrev pub ComesOut : Call E P → Type 0
-  ComesOut (Attach request answer) = IsAttachedSo answer
+  ComesOut (Attach newcomers request answer) = IsAttachedSo answer
   ComesOut (Park session now answer) = IfSome answer Holds
   ComesOut (ParkAsIs session answer) = IfSome answer Holds
   ComesOut (Keep session answer) = IfSome answer Holds

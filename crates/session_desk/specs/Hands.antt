@@ -1,5 +1,5 @@
 -- In whose hands the sessions of a desk are, by the calls that were made of it.
-use Rattle.std.specs.Prelude.{◌≡◌, ℕ, ◌+◌, ◌<◌, ◌≤◌, nat_eq, if◌then◌else◌, Bool, true, false, List, [], ◌∷◌, Option, Some, None, Result, Ok, Err}
+use Rattle.std.specs.Prelude.{◌≡◌, ℕ, ◌+◌, ◌<◌, ◌≤◌, nat_eq, if◌then◌else◌, sum_by, Bool, true, false, List, [], ◌∷◌, Option, Some, None, Result, Ok, Err}
 use Rattle.std.specs.FinMap as map
 use Rattle.session_desk.specs.declared.attached.Attached.{Attached}
 use Rattle.session_desk.specs.declared.attached.Attached.TheVariants.{New, Resumed, Replace, Busy}
@@ -28,7 +28,7 @@ attached_out number (Ok Busy) = 0
 attached_out number (Err error) = 0
 
 abbrev pub handed_out : {E P : Type 0} → ℕ → Call E P → ℕ
-handed_out number (Attach request answer) = attached_out number answer
+handed_out number (Attach newcomers request answer) = attached_out number answer
 handed_out number (Park session now answer) = once_in number answer
 handed_out number (ParkAsIs session answer) = once_in number answer
 handed_out number (Keep session answer) = once_in number answer
@@ -45,7 +45,7 @@ handed_in number (Park session now answer) = once number session
 handed_in number (ParkAsIs session answer) = once number session
 handed_in number (Keep session answer) = once number session
 handed_in number (Bury session answer) = once number session
-handed_in number (Attach request answer) = 0
+handed_in number (Attach newcomers request answer) = 0
 handed_in number (Sweep now answer) = 0
 handed_in number (Withdraw connection) = 0
 handed_in number (Kicked connection answer) = 0
@@ -56,7 +56,7 @@ handed_in number (TakePlace place answer) = 0
 abbrev pub buried : {E P : Type 0} → ℕ → Call E P → ℕ
 buried number (Bury session None) = once number session
 buried number (Bury session (Some back)) = 0
-buried number (Attach request answer) = 0
+buried number (Attach newcomers request answer) = 0
 buried number (Park session now answer) = 0
 buried number (ParkAsIs session answer) = 0
 buried number (Keep session answer) = 0
@@ -94,10 +94,18 @@ outs rows number = out_of_row (map.get rows number)
 abbrev pub rows_of : {E P : Type 0} → Rows E P → ℕ → ℕ
 rows_of rows number = row_count (map.get rows number)
 
+-- how many rows are lent or parked
+abbrev pub living_row : {E P : Type 0} → Row E P → ℕ
+living_row row = if is_living row.held_by then 1 else 0
+
+abbrev pub living_in : {E P : Type 0} → Rows E P → ℕ
+living_in rows = sum_by (λ entry. living_row entry.1) (map.entries rows)
+
 -- the desk law, which every call keeps
 pub record DeskLaw {E P : Type 0} (rows : Rows E P) (made : ℕ) : Type 0 where
-  -- at most 256 rows
-  pub few : map.len rows ≤ 256
+  -- at most 256 rows are lent or parked; those of sessions that are ending may stand beside them, up to 512 in all
+  pub few : living_in rows ≤ 256
+  pub fit : map.len rows ≤ 512
   -- each of a session that was new
   pub made_before : (number : ℕ) (row : Row E P) → HasRow rows number row → number < made
   -- no two rows that are lent or parked are of one client

@@ -31,9 +31,9 @@ register_code {E} {P} code =
 abbrev pub seen : {E P : Type 0} → List (ℕ × Row E P) → Rows E P
 seen entries = map.from_entries entries
 
--- at most 256 rows, and no more names than there are
+-- at most 512 rows, and no more names than there are
 pub record AreFew {E P : Type 0} (rows : Rows E P) (assigned : ℕ) : Type 0 where
-  pub few : map.len rows ≤ 256
+  pub few : map.len rows ≤ 512
   pub names : assigned < 100000000
 
 abbrev pub books_code : {E P : Type 0} → Coded P → Coded (Row E P) → Coded (Books E P)

@@ -1,10 +1,12 @@
 pub mod Sessions
 pub mod Refusals
 pub mod Rows
+pub mod Idle
 pub mod Sweeping
 pub mod Names
 pub mod Places
 pub mod Books
+pub mod Newcomers
 pub mod Attaching
 pub mod Opening
 pub mod Keeping

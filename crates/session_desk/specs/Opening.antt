@@ -8,8 +8,8 @@ use Rattle.session_desk.specs.declared.sight.Sight.{Sight}
 use Rattle.session_desk.specs.declared.sight.Sight.TheVariants as sight
 use Rattle.session_desk.specs.declared.row.Row.{Row}
 use Rattle.session_desk.specs.declared.row.Holder.TheVariants.{Lent, Parked}
-use Rattle.session_desk.specs.Books.{Books, after_new, after_end}
-use Rattle.session_desk.specs.Attaching.{IsNew, IsStale}
+use Rattle.session_desk.specs.Books.{Books, new_session, after_new, after_end}
+use Rattle.session_desk.specs.Attaching.{IsStale}
 
 -- what a look at the row of a client's session finds
 abbrev pub LooksAs : {E P : Type 0} → Row E P → Bool → ℕ → Sight → Type 0
@@ -17,19 +17,19 @@ LooksAs row clean now (sight.Lent holder wait) = (row.held_by ≡ Lent holder) �
 LooksAs {E} {P} row clean now sight.Stale = (session : Session E P) × (row.held_by ≡ Parked session) × IsStale session clean now
 LooksAs {E} {P} row clean now sight.Fresh = (session : Session E P) × (row.held_by ≡ Parked session) × ¬ IsStale session clean now
 
--- a new session of a client that has none, where there are fewer than 256 rows, and memory
+-- a new session of a client that has none, where there is memory
 abbrev pub Opens : {E P : Type 0} → Books E P → List ℕ → ℕ → Result (Session E P) DeskError → Books E P → Type 0
-Opens old client connection (Ok session) new = IsNew old client session × (new ≡ after_new old client connection)
-Opens old client connection (Err errors.Full) new = (map.len old.rows ≡ 256) × (new ≡ old)
-Opens old client connection (Err errors.Memory) new = (map.len old.rows < 256) × (new ≡ old)
+Opens old client connection (Ok session) new = (session ≡ new_session (record { number = old.made; client = client })) × (new ≡ after_new old client connection)
+Opens old client connection (Err errors.Memory) new = new ≡ old
+Opens old client connection (Err errors.Full) new = ⊥
 Opens old client connection (Err errors.NoPlace) new = ⊥
 Opens old client connection (Err errors.NoName) new = ⊥
 
--- the same, of a client whose parked session in this row ends
+-- the same, where a parked session in this row ends, and there are fewer than 512 rows
 abbrev pub OpensOver : {E P : Type 0} → Books E P → List ℕ → ℕ → ℕ → Row E P → Result (Session E P × Session E P) DeskError → Books E P → Type 0
 OpensOver old client connection number row (Ok both) new =
-    (row.held_by ≡ Parked both.1) × IsNew old client both.0 × (new ≡ after_new (after_end old number row) client connection)
-OpensOver old client connection number row (Err errors.Full) new = (map.len old.rows ≡ 256) × (new ≡ old)
-OpensOver old client connection number row (Err errors.Memory) new = (map.len old.rows < 256) × (new ≡ old)
+    (row.held_by ≡ Parked both.1) × (map.len old.rows < 512) × (both.0 ≡ new_session (record { number = old.made; client = client })) × (new ≡ after_new (after_end old number row) client connection)
+OpensOver old client connection number row (Err errors.Memory) new = new ≡ old
+OpensOver old client connection number row (Err errors.Full) new = ⊥
 OpensOver old client connection number row (Err errors.NoPlace) new = ⊥
 OpensOver old client connection number row (Err errors.NoName) new = ⊥

@@ -1,5 +1,6 @@
 -- A session: who it is, and when it is over by time.
 use Rattle.std.specs.Prelude.{◌≡◌, ◌≢◌, ℕ, ◌+◌, ◌*◌, ◌≤◌, List, Some}
+use Rattle.std.specs.Option.{unwrap_or}
 use Rattle.session_desk.specs.declared.session.Expiry.{Expiry}
 
 -- who a session is: its number, by the order in which the desk's sessions were new, and its client's identifier (3.1.3.1)
@@ -12,3 +13,7 @@ pub record Who : Type 0 where
 abbrev pub IsOver : Expiry → ℕ → Type 0
 IsOver expiry now =
     (expiry.seconds ≢ 4294967295) × ((parked : ℕ) × (expiry.parked ≡ Some parked) × (parked + 1000 * expiry.seconds ≤ now))
+
+-- the moment at which the session was parked last, in milliseconds; 0 where that was never
+abbrev pub parked_from : Expiry → ℕ
+parked_from expiry = unwrap_or expiry.parked 0

@@ -35,6 +35,6 @@ IsOutBy (Err error) out = ⊥
 
 -- a call that takes this session out of its row: to resume it, to end it for a new one, or to be retired
 abbrev pub TakesOut : {E P : Type 0} → Call E P → Session E P → Type 0
-TakesOut (Attach request answer) out = IsOutBy answer out
+TakesOut (Attach newcomers request answer) out = IsOutBy answer out
 TakesOut (Sweep now (Some session)) out = session ≡ out
 TakesOut _ out = ⊥

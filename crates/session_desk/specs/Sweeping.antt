@@ -7,6 +7,7 @@ use Rattle.session_desk.specs.declared.row.Holder.{Holder}
 use Rattle.session_desk.specs.declared.row.Holder.TheVariants.{Parked, Kept}
 use Rattle.session_desk.specs.declared.sweeping.Due.{Due}
 use Rattle.session_desk.specs.declared.sweeping.Due.TheVariants as due
+use Rattle.session_desk.specs.Idle.{IsIdleSince}
 use Rattle.session_desk.specs.Rows.{Rows, IsKept, IsOverdue, NoRow, IsOldest, away}
 
 -- the oldest row that is so has this session in these hands, and from now on it is in the caller's, to be retired
@@ -29,3 +30,4 @@ SweepsNothing {E} {P} rows now = (answer : Option (Session E P)) (after : Rows E
 abbrev pub Fits : {E P : Type 0} → Due → Row E P → Type 0
 Fits due.Kept row = IsKept row
 Fits (due.Over now) row = IsOverdue now row
+Fits (due.IdleSince moment) row = IsIdleSince moment row

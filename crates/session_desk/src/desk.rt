@@ -195,7 +195,7 @@ impl<E, P: Place> Desk<E, P> {
         ensures { MatchResult result (λ all. HasAll self all.places.items all.envelopes.items) (λ back. back ≡ self) }
     {
         let rows = self.table.len();
-        let Ok(mut places) = Vec::with_capacity(self.alloc, 2 * ROWS) else {
+        let Ok(mut places) = Vec::with_capacity(self.alloc, rows + ROWS) else {
             return Err(self);
         };
         let Ok(mut envelopes) = Vec::with_capacity(self.alloc, CAPACITY * rows) else {

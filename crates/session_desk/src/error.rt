@@ -7,8 +7,8 @@ use thiserror::Error;
 /// Why a desk refuses. Nothing has changed then.
 #[derive(Clone, Copy, Debug, PartialEq, Eq, Error)]
 pub enum DeskError {
-    /// 701: a new session is wanted, and there are 256 rows.
-    #[error("there are as many sessions as the desk keeps")]
+    /// 701: a new session is wanted for a client that has none, and there is no room for it, or no newcomer gets one.
+    #[error("there is no room for a further session")]
     Full,
     /// 702: no place of this group is free. [`Desk::lend_place`](crate::Desk::lend_place) says it by `None`.
     #[error("no place of this group is free")]

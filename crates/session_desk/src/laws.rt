@@ -1,25 +1,30 @@
 //! Laws: what holds of every list of calls of a desk. Each is the contract of a function that does nothing. They are
 //! stated over the definitions that the contracts of [`Desk`](crate::Desk) cite, so they are about what its methods do.
-ghost use Rattle.std.specs.Prelude.{◌≡◌, ◌↔◌, ℕ, ◌+◌, ◌<◌, nat_lt, if◌then◌else◌, List, [], Some, Result, Err};
+ghost use Rattle.std.specs.Prelude.{◌≡◌, ◌↔◌, ℕ, ◌+◌, ◌<◌, nat_lt, if◌then◌else◌, ◌⊎◌, ◌≢◌, List, [], Some, Result, Ok, Err};
 ghost use Rattle.session_desk.specs.AskedBack.{IsAskedBack};
 ghost use Rattle.session_desk.specs.Asking.{IsSameQuestion, HadMemory};
 ghost use Rattle.session_desk.specs.Attaching.{Attaches, Request};
 ghost use Rattle.session_desk.specs.Books.{Books, IsKicked, new_books};
 ghost use Rattle.session_desk.specs.Calls.{Call, Makes, MakesAll};
 ghost use Rattle.session_desk.specs.Everywhere.{AllGoIn, ComesOut, GoesIn, IfMember, IsEverywhere};
+ghost use Rattle.session_desk.specs.Idle.{IsIdle};
+ghost use Rattle.session_desk.specs.Rows.{HasRow, LivesAs};
 ghost use Rattle.session_desk.specs.Places.{IsFreeAt, LieInOwnCells, cell_at};
 ghost use Rattle.session_desk.specs.Stored.{TakesOut, last_in};
 ghost use Rattle.session_desk.specs.declared.attached.Attached.{Attached};
 ghost use Rattle.session_desk.specs.declared.error.DeskError.{DeskError};
-ghost use Rattle.session_desk.specs.declared.error.DeskError.TheVariants.{NoName};
+ghost use Rattle.session_desk.specs.declared.attached.Attached.TheVariants.{New};
+ghost use Rattle.session_desk.specs.declared.error.DeskError.TheVariants.{Full, NoName};
+ghost use Rattle.session_desk.specs.declared.newcomers.Newcomers.{Newcomers};
+ghost use Rattle.session_desk.specs.declared.row.Row.{Row};
 ghost use Rattle.session_desk.specs.declared.session.Session.{Session};
 ghost use Rattle.session_desk.specs.Hands.{handed_out, handed_in, buried, total, outs, rows_of, DeskLaw};
 
 use crate::places::Place;
 use crate::rule::Rule;
 
-/// **The desk law** is kept by every call, whatever calls are made of a new desk: at most 256 rows, each of a session that
-/// was new; no two that are lent or parked are of one client; what a row keeps is its own session; and no parked
+/// **The desk law** is kept by every call, whatever calls are made of a new desk: at most 256 rows are lent or parked, and 512 in all, each of a
+/// session that was new; no two that are lent or parked are of one client; what a row keeps is its own session; and no parked
 /// session's window is of an ending one. A desk that keeps it goes on to keep it.
 pub fn desk_law<E, P>()
     ensures kept { (cell : P → ℕ) (calls : List (Call E P)) (b : Books E P) →
@@ -62,9 +67,21 @@ pub fn kicked_exactly<E, P>()
 /// **Names run out**: where the name `auto-99999999` was given, a client without an identifier is refused with 704, and nothing
 /// changes.
 pub fn names_run_out<E, P>()
-    ensures { (old new : Books E P) (request : Request) (answer : Result (Attached E P) DeskError) →
-        request.client ≡ [] → old.assigned ≡ 99999999 → Attaches old request answer new →
+    ensures { (newcomers : Newcomers) (old new : Books E P) (request : Request) (answer : Result (Attached E P) DeskError) →
+        request.client ≡ [] → old.assigned ≡ 99999999 → Attaches newcomers old request answer new →
         (answer ≡ Err NoName) × (new ≡ old) }
+{}
+
+/// **Nobody is shut out by its own session, and none that is in use goes for a newcomer's**:
+///
+/// - a client that has a session at the desk, which is lent or parked, is never refused for want of room, however many there are, and whoever else is taken in
+///   (`own`);
+/// - a session that ends as another begins is the same client's, or an idle one: it holds nothing, and has no place in a group (`idle`).
+pub fn nobody_shut_out<E, P>()
+    ensures own { (newcomers : Newcomers) (old new : Books E P) (request : Request) (answer : Result (Attached E P) DeskError) (number : ℕ) (row : Row E P) →
+        request.client ≢ [] → HasRow old.rows number row → LivesAs request.client row → Attaches newcomers old request answer new → answer ≢ Err Full }
+    ensures idle { (newcomers : Newcomers) (old new : Books E P) (request : Request) (session ended : Session E P) → DeskLaw old.rows old.made →
+        Attaches newcomers old request (Ok (New session (Some ended))) new → (ended.identity.client ≡ request.client) ⊎ IsIdle ended }
 {}
 
 /// **A desk answers each question in one way**, memory aside: two calls of one desk with the same arguments, neither of which wanted

@@ -136,6 +136,23 @@ pub(crate) fn forget(living: &mut IndexMap<Bytes, u64>, client: &Bytes)
     let _ = living.swap_remove(client);
 }
 
+/// Lets the identifier in a row lead to no session.
+pub(crate) fn forget_of<E, P>(
+    rows: &IndexMap<u64, Row<E, P>>,
+    living: &mut IndexMap<Bytes, u64>,
+    number: u64,
+)
+    requires { (row : Row E P) × HasRow (seen rows.now.entries) number row }
+    ensures { (row : Row E P) → HasRow (seen rows.now.entries) number row →
+        (other : List ℕ) → number_at living.new.entries other
+        ≡ cond (pointwise nat_eq row.client other) None (number_at living.old.entries other) }
+{
+    match rows.get(&number) {
+        Some(row) => forget(living, &row.client),
+        None => unreachable!(),
+    }
+}
+
 /// Puts the session of a client that is lent or parked into a caller's hands: its client's identifier leads to none.
 pub(crate) fn dismiss_living<E, P>(
     rows: &mut IndexMap<u64, Row<E, P>>,
@@ -150,9 +167,6 @@ pub(crate) fn dismiss_living<E, P>(
         (other : List ℕ) → number_at living.new.entries other
         ≡ cond (pointwise nat_eq row.client other) None (number_at living.old.entries other) }
 {
-    match rows.get(&number) {
-        Some(row) => forget(living, &row.client),
-        None => unreachable!(),
-    }
+    forget_of(rows, living, number);
     dismiss(rows, number)
 }

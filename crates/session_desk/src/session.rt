@@ -61,7 +61,7 @@ pub struct Expiry {
 }
 
 impl Expiry {
-    ghost use Rattle.session_desk.specs.Sessions.{IsOver};
+    ghost use Rattle.session_desk.specs.Sessions.{IsOver, parked_from};
 
     /// That of a session which ends with its connection and was never parked.
     pub const NONE: Expiry = Expiry {
@@ -71,6 +71,13 @@ impl Expiry {
 
     /// The Session Expiry Interval of a session that never ends by time.
     pub const NEVER: u32 = u32::MAX;
+
+    /// The moment in milliseconds at which a desk parked the session last; 0 where that was never.
+    pub(crate) fn parked_from(&self) -> u64
+        ensures { result ≡ parked_from self.now }
+    {
+        self.parked.unwrap_or(0)
+    }
 
     /// A moment before which the session is not over by time.
     pub(crate) fn over_from(&self) -> u64
@@ -131,6 +138,7 @@ pub struct Session<E, P> {
 impl<E, P> Session<E, P> {
     ghost use Rattle.member_window.specs.Contents.{new_contents};
     ghost use Rattle.session_desk.specs.Books.{new_session};
+    ghost use Rattle.session_desk.specs.Idle.{IsIdle};
 
     /// A new session: it ends with its connection, and is no member.
     pub(crate) fn new(identity: Identity, window: Window<E>) -> Session<E, P>
@@ -144,5 +152,12 @@ impl<E, P> Session<E, P> {
             membership: Membership::NotMember,
             subscription: None,
         }
+    }
+
+    /// Whether it holds nothing, and has no place in a group.
+    pub(crate) fn is_idle(&self) -> bool
+        ensures { IsTrue result ↔ IsIdle self.now }
+    {
+        self.window.is_empty() && matches!(self.membership, Membership::NotMember)
     }
 }

@@ -2,6 +2,7 @@
 ghost use Rattle.std.specs.Prelude.{◌≡◌, ℕ, ◌≤◌, ◌↔◌, min, IsTrue, MatchOption};
 ghost use Rattle.std.specs.Option.{option_map_or};
 ghost use Rattle.session_desk.specs.Rows.{HasRow, IsOverdue, IsOldest, NoRow};
+ghost use Rattle.session_desk.specs.Idle.{IsIdleIn, IsIdleFrom, IsFirstIdle};
 ghost use Rattle.session_desk.specs.Sweeping.{Fits};
 ghost use Rattle.session_desk.specs.Layout.{seen};
 
@@ -15,6 +16,8 @@ pub(crate) enum Due {
     Kept,
     /// A parked session whose time is over at this moment.
     Over(u64),
+    /// An idle session that was parked at this moment or before.
+    IdleSince(u64),
 }
 
 /// Whether a row is looked for.
@@ -24,6 +27,9 @@ fn fits<E, P>(row: &Row<E, P>, due: Due) -> bool
     match (&row.held_by, due) {
         (Holder::Kept(_), Due::Kept) => true,
         (Holder::Parked(session), Due::Over(now)) => session.expiry.is_over(now),
+        (Holder::Parked(session), Due::IdleSince(moment)) => {
+            session.is_idle() && session.expiry.parked_from() <= moment
+        }
         _ => false,
     }
 }
@@ -80,4 +86,32 @@ pub(crate) fn soonest<E, P>(rows: &IndexMap<u64, Row<E, P>>) -> u64
         }
     }
     soonest
+}
+
+/// The moment from which on the session in a row is idle, if it is.
+fn idle_from<E, P>(row: &Row<E, P>) -> Option<u64>
+    ensures { MatchOption result (¬ IsIdleIn row.now) (IsIdleFrom row.now) }
+{
+    match &row.held_by {
+        Holder::Parked(session) if session.is_idle() => Some(session.expiry.parked_from()),
+        _ => None,
+    }
+}
+
+/// The first moment from which on a session is idle that is so.
+pub(crate) fn first_idle<E, P>(rows: &IndexMap<u64, Row<E, P>>) -> Option<u64>
+    ensures { MatchOption result (NoRow (seen rows.now.entries) IsIdleIn) (IsFirstIdle (seen rows.now.entries)) }
+{
+    let mut first = None;
+    'places: for place in 0..rows.len() {
+        match rows.get_index(place) {
+            Some((_, row)) => {
+                if let Some(moment) = idle_from(row) {
+                    first = Some(lesser(first, moment));
+                }
+            }
+            None => unreachable!(),
+        }
+    }
+    first
 }

@@ -10,10 +10,12 @@ use crate::abandoned::abandon_rows;
 use crate::drained::drain_rows;
 use crate::names::next_name;
 use crate::row::{Holder, Row};
-use crate::rows::{add, claim, dismiss, dismiss_living, exchange, prepare, remove, set_number};
+use crate::rows::{
+    add, claim, dismiss, dismiss_living, exchange, forget_of, prepare, remove, set_number,
+};
 use crate::session::{Identity, Session};
 use crate::sight::{Sight, look};
-use crate::sweeping::{Due, oldest, soonest};
+use crate::sweeping::{Due, first_idle, oldest, soonest};
 use bytes::Bytes;
 use indexmap::IndexMap;
 use std::alloc::{AllocError, Global};
@@ -21,7 +23,7 @@ use std::marker::Model;
 
 /// For how many rows memory is taken at the start: more than there are, since a row that is taken away may leave its room
 /// unusable until the map is laid out anew.
-const ROOM: usize = 512;
+pub(crate) const ROOM: usize = 512;
 
 /// The rows of a desk.
 pub(crate) struct Table<E, P> {
@@ -51,8 +53,9 @@ impl<E, P> Model for Table<E, P> {
 }
 
 impl<E, P> Table<E, P> {
-    ghost use Rattle.session_desk.specs.Rows.{HasRow, LivesAs, NoneLivesAs, is_living, away, begun, moved, next_who, with_holder, with_wait};
+    ghost use Rattle.session_desk.specs.Rows.{HasRow, LivesAs, NoRow, NoneLivesAs, is_living, away, begun, moved, next_who, with_holder, with_wait};
     ghost use Rattle.session_desk.specs.Sweeping.{Sweeps, SweepsNothing};
+    ghost use Rattle.session_desk.specs.Idle.{IsIdleIn, IsParkedLongest};
     ghost use Rattle.session_desk.specs.Opening.{LooksAs};
     ghost use Rattle.session_desk.specs.Names.{IsNextName, NoNameLeft};
     ghost use Rattle.session_desk.specs.Rows.{IsRowOf, IsLentIn, IsAwayIn, NoRowOf};
@@ -232,6 +235,44 @@ impl<E, P> Table<E, P> {
         add(&mut self.rows, number, Row::lent(copies.row, connection));
         set_number(&mut self.living, copies.key, number);
         Ok((Identity::new(number, copies.session), ended))
+    }
+
+    /// Begins a session of a client that has none, lent to a connection, and hands out a parked one of another client.
+    pub(crate) fn begin_displacing(
+        &mut self,
+        old: u64,
+        client: &Bytes,
+        connection: u16,
+    ) -> Result<(Identity, Session<E, P>), AllocError>
+        requires { (row : Row E P) × (session : Session E P) × HasRow self.old.rows old row
+            × (row.held_by ≡ Holder.Parked session) × NoneLivesAs self.old.rows client.now }
+        ensures ok { IfOk result (λ both. (row : Row E P) → HasRow self.old.rows old row →
+            (row.held_by ≡ Holder.Parked both.1) × (both.0 ≡ next_who self.old client.now)
+            × (self.new ≡ begun (moved self.old old (away row.client)) client.now connection)) }
+        ensures err { OnErr result (self.new ≡ self.old) }
+    {
+        let copies = prepare(&mut self.rows, &mut self.living, client)?;
+        let number = self.made;
+        let Some(made) = number.checked_add(1) else {
+            return Err(AllocError);
+        };
+        let ended = dismiss(&mut self.rows, old).into_parked();
+        self.made = made;
+        add(&mut self.rows, number, Row::lent(copies.row, connection));
+        set_number(&mut self.living, copies.key, number);
+        forget_of(&self.rows, &mut self.living, old);
+        Ok((Identity::new(number, copies.session), ended))
+    }
+
+    /// The number of the idle session that has been parked longest.
+    pub(crate) fn parked_longest(&self) -> Option<u64>
+        ensures { MatchOption result (NoRow self.now.rows IsIdleIn)
+            (λ number. (row : Row E P) × (session : Session E P) × IsParkedLongest self.now.rows number row session) }
+    {
+        match first_idle(&self.rows) {
+            Some(moment) => oldest(&self.rows, Due::IdleSince(moment)),
+            None => None,
+        }
     }
 
     /// A moment before which no session is to be retired.

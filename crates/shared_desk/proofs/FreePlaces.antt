@@ -95,7 +95,7 @@ module _ {P : Type 0} (cell : P → ℕ) where
   -- each call
   last_call : (old new : Books Held P) (call : Call Held P) (last : ℕ → Option (Option P)) → Makes cell old call new → AreLast last old.free
       → AreLast (λ at. option_or (change_at cell at call) (last at)) new.free
-  last_call old new (Attach request answer) last made are = frees_nothing old new (Attach request answer) last made tt are
+  last_call old new (Attach newcomers request answer) last made are = frees_nothing old new (Attach newcomers request answer) last made tt are
   last_call old new (Withdraw connection) last made are = frees_nothing old new (Withdraw connection) last made tt are
   last_call old new (Kicked connection answer) last made are = frees_nothing old new (Kicked connection answer) last made tt are
   last_call old new (Park session now None) last made are = same last old.free new.free (ap (λ b. b.free) made.after) are

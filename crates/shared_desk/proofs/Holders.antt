@@ -49,7 +49,7 @@ module _ {P : Type 0} (cell : P → ℕ) where
   lent_out number (Err error) is = absurd is
 
   loan_out : (number connection : ℕ) (call : Call Held P) → Lends number connection call → (handed_in number call ≡ 0) × (0 < handed_out number call)
-  loan_out number connection (Attach request answer) is = (refl, lent_out number answer is.1)
+  loan_out number connection (Attach newcomers request answer) is = (refl, lent_out number answer is.1)
   loan_out number connection (Withdraw other) is = absurd is
   loan_out number connection (Kicked other answer) is = absurd is
   loan_out number connection (Park session now answer) is = absurd is
@@ -64,7 +64,7 @@ module _ {P : Type 0} (cell : P → ℕ) where
   one_loan number a b call other is mine theirs = both call mine (subst (Lends number b) (sym is) theirs)
     where
       both : (call : Call Held P) → Lends number a call → Lends number b call → a ≡ b
-      both (Attach request answer) mine theirs = sym mine.0 ∙ theirs.0
+      both (Attach newcomers request answer) mine theirs = sym mine.0 ∙ theirs.0
       both (Withdraw other) mine theirs = absurd mine
       both (Kicked other answer) mine theirs = absurd mine
       both (Park session now answer) mine theirs = absurd mine

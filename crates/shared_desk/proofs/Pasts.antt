@@ -7,6 +7,7 @@ use Rattle.session_desk.specs.declared.attached.Attached.{Attached}
 use Rattle.session_desk.specs.declared.error.DeskError.{DeskError}
 use Rattle.session_desk.specs.declared.session.Session.{Session}
 use Rattle.session_desk.specs.AskedBack.{IsAskedBack}
+use Rattle.session_desk.specs.declared.newcomers.Newcomers.{Newcomers}
 use Rattle.session_desk.specs.Attaching.{Request}
 use Rattle.session_desk.specs.Books.{new_books}
 use Rattle.session_desk.specs.Calls.{Call, Attach, Kicked}
@@ -56,12 +57,12 @@ module _ {P : Type 0} (HasOut : P → List Held → Type 0) (slot_of number_of :
       )
 
   -- a session that is handed to whoever attaches is not ending, and has out at its place what it holds
-  pub was_ready : (old new : CallerState (Call Held P)) (request : Request) (answer : Result (Attached Held P) DeskError)
-      → AddsCall HasOut slot_of number_of old (Attach request answer) new → IfOk answer (IsReady HasOut)
-  was_ready old new request answer told =
-      let was = (was_told old new (Attach request answer) told).0 in
-      ready HasOut request.client was.old was.new request answer was.before.law was.makes
-      (comes_out HasOut cell was.old was.new (Attach request answer) was.before tt was.makes)
+  pub was_ready : (newcomers : Newcomers) (old new : CallerState (Call Held P)) (request : Request) (answer : Result (Attached Held P) DeskError)
+      → AddsCall HasOut slot_of number_of old (Attach newcomers request answer) new → IfOk answer (IsReady HasOut)
+  was_ready newcomers old new request answer told =
+      let was = (was_told old new (Attach newcomers request answer) told).0 in
+      ready HasOut newcomers request.client was.old was.new request answer was.before.law was.makes
+      (comes_out HasOut cell was.old was.new (Attach newcomers request answer) was.before tt was.makes)
 
   pub very : (before after : List (Call Held P)) (next : Call Held P) (session : Session Held P) → IsHistory HasOut slot_of number_of (before ++ next ∷ after)
       → TakesOut next session → last_in session.identity.number before ≡ Some session

@@ -18,7 +18,7 @@ module _ {P : Type 0} where
 
   -- a call that lends it to this connection
   abbrev pub Lends : ℕ → ℕ → Call Held P → Type 0
-  Lends number connection (Attach request answer) = (request.connection ≡ connection) × IsLoanOf number answer
+  Lends number connection (Attach newcomers request answer) = (request.connection ≡ connection) × IsLoanOf number answer
   Lends number connection _ = ⊥
 
   -- the session was lent to this connection, and not handed in since

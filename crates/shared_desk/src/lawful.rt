@@ -19,7 +19,7 @@ use bytes::Bytes;
 use call_history::{Caller, Entries, HistoryName, Keeper};
 use conn_supply::HoldingPlace;
 use group_jobs::Envelope;
-use session_desk::{Attached, Desk, DeskError, Session};
+use session_desk::{Attached, Desk, DeskError, Newcomers, Session};
 use std::marker::{Brand, Model};
 
 /// A desk, with the keeper of its history, which has led to what the desk knows. So it keeps the desk law, each session in it has out at its place just what
@@ -76,6 +76,7 @@ impl<P: HoldingPlace, D: HistoryName> LawfulDesk<P, D> {
         &mut self,
         history: &DeskHistory<P, D>,
         me: &mut DeskCaller<P, D>,
+        newcomers: Newcomers,
         connection: u16,
         client: &Bytes,
         clean: bool,
@@ -86,14 +87,14 @@ impl<P: HoldingPlace, D: HistoryName> LawfulDesk<P, D> {
         requires known { connection < 1024 }
         requires short { length client.now ≤ 128 }
         ensures ready { IfOk result (IsReady P.has_out) }
-        ensures told { AddsCall P.has_out P.slot_of P.number_of me.old (Attach request result) me.new }
+        ensures told { AddsCall P.has_out P.slot_of P.number_of me.old (Attach newcomers request result) me.new }
     {
-        let answer = self.desk.attach(connection, client, clean, now);
-        note::<P, D, (), Result<Attached<Envelope, P>, DeskError>, Brand>(
+        let answer = self.desk.attach(newcomers, connection, client, clean, now);
+        note::<P, D, Newcomers, Result<Attached<Envelope, P>, DeskError>, Brand>(
             &mut self.keeper,
             history,
             &mut me.caller,
-            &(),
+            &newcomers,
             &answer,
         );
         answer

@@ -10,6 +10,7 @@ ghost use Rattle.session_desk.specs.Hands.{handed_in, handed_out, total};
 ghost use Rattle.session_desk.specs.Places.{cell_at};
 ghost use Rattle.session_desk.specs.Stored.{TakesOut, last_in};
 ghost use Rattle.session_desk.specs.declared.attached.Attached.{Attached};
+ghost use Rattle.session_desk.specs.declared.newcomers.Newcomers.{Newcomers};
 ghost use Rattle.session_desk.specs.declared.error.DeskError.{DeskError};
 ghost use Rattle.session_desk.specs.declared.session.Session.{Session};
 ghost use Rattle.conn_supply.specs.Ready.{IsReady};
@@ -29,8 +30,8 @@ pub fn histories<P: HoldingPlace>()
         IsHistory P.has_out P.slot_of P.number_of (before ++ call ∷ after) → IsMade P.has_out P.slot_of P.number_of call }
     ensures told { (old new : CallerState (Call Held P)) (call : Call Held P) →
         AddsCall P.has_out P.slot_of P.number_of old call new → IsMade P.has_out P.slot_of P.number_of call × IsPrefix old.calls new.calls }
-    ensures ready { (old new : CallerState (Call Held P)) (request : Request) (answer : Result (Attached Held P) DeskError) →
-        AddsCall P.has_out P.slot_of P.number_of old (Attach request answer) new → IfOk answer (IsReady P.has_out) }
+    ensures ready { (newcomers : Newcomers) (old new : CallerState (Call Held P)) (request : Request) (answer : Result (Attached Held P) DeskError) →
+        AddsCall P.has_out P.slot_of P.number_of old (Attach newcomers request answer) new → IfOk answer (IsReady P.has_out) }
 {}
 
 /// **A session is in one pair of hands**, whichever threads call. It was handed out as often as it was handed in, or once more (`hands`). Between a call that

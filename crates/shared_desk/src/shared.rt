@@ -19,7 +19,7 @@ use bytes::Bytes;
 use call_history::{HistoryName, OpenedHistory};
 use conn_supply::HoldingPlace;
 use group_jobs::Envelope;
-use session_desk::{Attached, CONNECTIONS, Desk, DeskError, Session};
+use session_desk::{Attached, CONNECTIONS, Desk, DeskError, Newcomers, Session};
 use std::alloc::Global;
 use std::marker::Model;
 use std::sync::atomic::Ordering::SeqCst;
@@ -32,6 +32,7 @@ pub struct OpenedDesk<P: HoldingPlace> {
     opened: OpenedHistory<DeskCall<P>>,
     soonest: AtomicU64,
     marks: Vec<AtomicBool>,
+    newcomers: Newcomers,
 }
 
 impl<P: HoldingPlace> Model for OpenedDesk<P> {
@@ -47,12 +48,13 @@ impl<P: HoldingPlace> Model for OpenedDesk<P> {
 }
 
 impl<P: HoldingPlace> OpenedDesk<P> {
-    /// A desk without sessions and without free places. No other call takes memory, but for [`SharedDesk::attach`].
+    /// A desk without sessions and without free places, that does this for newcomers, as [`SharedDesk::newcomers`] tells. No other call takes memory, but for
+    /// [`SharedDesk::attach`].
     ///
     /// # Errors
     ///
     /// 703 [`DeskError::Memory`].
-    pub fn open(alloc: Global) -> Result<OpenedDesk<P>, DeskError> {
+    pub fn open(alloc: Global, newcomers: Newcomers) -> Result<OpenedDesk<P>, DeskError> {
         let marks = no_marks(alloc)?;
         let opened = OpenedHistory::open(alloc).map_err(|_| DeskError::Memory)?;
         let desk = Desk::new(alloc)?;
@@ -62,6 +64,7 @@ impl<P: HoldingPlace> OpenedDesk<P> {
             opened,
             soonest,
             marks,
+            newcomers,
         })
     }
 
@@ -75,6 +78,7 @@ impl<P: HoldingPlace> OpenedDesk<P> {
             opened,
             soonest,
             marks,
+            newcomers,
         } = self;
         let (history, keeper, caller) = opened.name::<D>();
         let desk = Mutex::new(LawfulDesk::new(desk, keeper));
@@ -84,6 +88,7 @@ impl<P: HoldingPlace> OpenedDesk<P> {
                 history,
                 soonest,
                 marks,
+                newcomers,
             },
             DeskCaller { caller },
         )
@@ -98,6 +103,7 @@ impl<P: HoldingPlace + Drop> OpenedDesk<P> {
             opened: _,
             soonest: _,
             marks: _,
+            newcomers: _,
         } = self;
         desk.abandon_with(&discard);
     }
@@ -122,10 +128,12 @@ pub struct SharedDesk<P: HoldingPlace, D: HistoryName> {
     soonest: AtomicU64,
     // For each connection, whether its session may have been asked for: where it was not, `kicked` asks nobody.
     marks: Vec<AtomicBool>,
+    // What it does for a client that has no session.
+    newcomers: Newcomers,
 }
 
 impl<P: HoldingPlace, D: HistoryName> SharedDesk<P, D> {
-    /// A session for a connection, as [`Desk::attach`] has it.
+    /// A session for a connection, as [`Desk::attach`] has it, which does this for newcomers.
     ///
     /// # Errors
     ///
@@ -134,6 +142,7 @@ impl<P: HoldingPlace, D: HistoryName> SharedDesk<P, D> {
         &self,
         rt: &R,
         me: &mut DeskCaller<P, D>,
+        newcomers: Newcomers,
         connection: u16,
         client: &Bytes,
         clean: bool,
@@ -142,16 +151,21 @@ impl<P: HoldingPlace, D: HistoryName> SharedDesk<P, D> {
         requires known { connection < 1024 }
         requires short { length client.now ≤ 128 }
         ensures ready { IfOk result (IsReady P.has_out) }
-        ensures told { AddsCall P.has_out P.slot_of P.number_of me.old (Attach (asked connection client.now clean now) result) me.new }
+        ensures told { AddsCall P.has_out P.slot_of P.number_of me.old (Attach newcomers (asked connection client.now clean now) result) me.new }
     {
         let mut desk = self.desk.lock(rt);
-        let attached = desk.attach(&self.history, me, connection, client, clean, now);
+        let attached = desk.attach(&self.history, me, newcomers, connection, client, clean, now);
         match &attached {
             Ok(Attached::Replace(holder)) => self.mark(*holder, true),
             Ok(Attached::New { .. } | Attached::Resumed(_)) => self.mark(connection, false),
             Ok(Attached::Busy) | Err(_) => {}
         }
         attached
+    }
+
+    /// What it was opened to do for a client that has no session. A call of [`SharedDesk::attach`] says it anew.
+    pub fn newcomers(&self) -> Newcomers {
+        self.newcomers
     }
 
     /// Notes whether a connection's session may have been asked for.
@@ -322,6 +336,7 @@ impl<P: HoldingPlace, D: HistoryName> SharedDesk<P, D> {
             history: _,
             soonest: _,
             marks: _,
+            newcomers: _,
         } = self;
         desk.into_inner().into_desk()
     }
@@ -340,6 +355,7 @@ impl<P: HoldingPlace, D: HistoryName> SharedDesk<P, D> {
             history,
             soonest: _,
             marks: _,
+            newcomers: _,
         } = self;
         desk.into_inner().finish(&history, me)
     }

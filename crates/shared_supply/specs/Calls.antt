@@ -5,6 +5,11 @@ use Rattle.mqtt_topic.specs.Routes.{slot_of, routed, places_of}
 use Rattle.group_jobs.specs.declared.message.Message.{Message}
 use Rattle.group_jobs.specs.declared.stamp.Stamp.{Stamp}
 use Rattle.group_jobs.specs.Stamps.{Held}
+use Rattle.session_desk.specs.Attaching.{Request}
+use Rattle.session_desk.specs.declared.attached.Attached.{Attached}
+use Rattle.session_desk.specs.declared.error.DeskError.{DeskError}
+use Rattle.session_desk.specs.declared.newcomers.Newcomers.{Newcomers}
+use Rattle.session_desk.specs.declared.newcomers.Newcomers.TheVariants.{Refused}
 use Rattle.session_desk.specs.declared.session.Session.{Session}
 use Rattle.session_desk.specs.Calls.{Call}
 use Rattle.session_desk.specs.Calls as desk
@@ -53,6 +58,11 @@ IsAllowed false allowance = allowance ≡ 0
 abbrev pub AsksDesk : Worker → Call Held PlaceState → Worker → Type 0
 AsksDesk old call new = IsToldOfDesk old.desk call new.desk × (new ≡ record old { desk = new.desk })
 
+-- a session is asked for; for a client that has none, none begins where the worker drains
+abbrev pub AsksForSession : Worker → Request → Result (Attached Held PlaceState) DeskError → Worker → Type 0
+AsksForSession old request answer new =
+    (newcomers : Newcomers) × (old.draining ≡ true → newcomers ≡ Refused) × AsksDesk (waking old (asking_back answer old.wakes)) (desk.Attach newcomers request answer) new
+
 -- a session goes back to the desk; where it is none of the desk's, it is let go
 abbrev pub HandsIn : Worker → (Option (Session Held PlaceState) → Call Held PlaceState) → Worker → Type 0
 HandsIn old call new = (back : Option (Session Held PlaceState)) × AsksDesk old (call back) new
@@ -75,7 +85,7 @@ module _ (group : ℕ → GroupId) (seen : Sights) where
 
   -- what each call makes, with its answer, in a broker with these groups, whose witness saw this
   abbrev pub Calls : Worker → SupplyCall PlaceState → Worker → Type 0
-  Calls old (Attach request answer) new = AsksDesk (waking old (asking_back answer old.wakes)) (desk.Attach request answer) new
+  Calls old (Attach request answer) new = AsksForSession old request answer new
   Calls old (Withdraw connection) new = AsksDesk old (desk.Withdraw connection) new
   Calls old (Kicked connection answer) new = ((answer ≡ false) × (new ≡ old)) ⊎ AsksDesk old (desk.Kicked connection answer) new
   Calls old (Park session now answer) new = AsksDesk (waking old (freeing old.wakes)) (desk.Park session now answer) new

@@ -59,10 +59,12 @@ impl<'a, 'g, B: Broker, N: HistoryName, R: Wait> Supply<BrokerPlace<B>>
         clean: bool,
         now: u64,
     ) -> Result<Attached<Envelope, BrokerPlace<B>>, DeskError> {
+        let newcomers = self.newcomers();
         let shared_broker = self.shared_broker;
         let attached = shared_broker.desk.attach(
             self.rt,
             &mut self.desk,
+            newcomers,
             connection,
             client.shared_bytes(),
             clean,

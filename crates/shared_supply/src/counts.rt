@@ -131,8 +131,6 @@ pub struct SessionCounts {
     pub begun: u64,
     /// How many they were lent that their clients had before.
     pub resumed: u64,
-    /// How often one was asked back for them from another connection; who waits for it asks again at each Tick.
-    pub asked_back: u64,
     /// How often one was refused: there are as many as the desk keeps, no name or no memory was left, or another connection waits for it already.
     pub refused: u64,
     /// How many ended.
@@ -144,7 +142,6 @@ impl SessionCounts {
     pub const NONE: SessionCounts = SessionCounts {
         begun: 0,
         resumed: 0,
-        asked_back: 0,
         refused: 0,
         ended: 0,
     };
@@ -158,7 +155,6 @@ impl SessionCounts {
     pub fn add(&mut self, other: &SessionCounts) {
         self.begun = self.begun.wrapping_add(other.begun);
         self.resumed = self.resumed.wrapping_add(other.resumed);
-        self.asked_back = self.asked_back.wrapping_add(other.asked_back);
         self.refused = self.refused.wrapping_add(other.refused);
         self.ended = self.ended.wrapping_add(other.ended);
     }
@@ -167,7 +163,7 @@ impl SessionCounts {
         match answer {
             Ok(Attached::New { .. }) => self.begun = self.begun.wrapping_add(1),
             Ok(Attached::Resumed(_)) => self.resumed = self.resumed.wrapping_add(1),
-            Ok(Attached::Replace(_)) => self.asked_back = self.asked_back.wrapping_add(1),
+            Ok(Attached::Replace(_)) => {}
             Ok(Attached::Busy) | Err(_) => self.refused = self.refused.wrapping_add(1),
         }
     }

@@ -2,6 +2,7 @@
 ghost use Rattle.std.specs.Prelude.{◌≡◌, ◌<◌, true, false};
 ghost use Rattle.gate_word.specs.Visits.{Ends};
 ghost use Rattle.gate_word.specs.declared.visitor.Visitor.TheVariants.{Inside, Outside};
+ghost use Rattle.session_desk.specs.declared.newcomers.Newcomers.TheVariants.{Refused};
 ghost use Rattle.shared_supply.specs.Calls.{handing, missing};
 ghost use Rattle.shared_supply.specs.Waking.{KeepsAtMost, no_wakes, one_called};
 ghost use Rattle.shared_supply.specs.Workers.{Begins, Leaves, draining_if, visitor_of, is_inside};
@@ -14,6 +15,7 @@ use call_history::HistoryName;
 use conn_supply::NoMemory;
 use gate_word::{Turn, Visitor};
 use group_jobs::Envelope;
+use session_desk::Newcomers;
 use shared_desk::DeskCaller;
 use shared_routes::KnownRoutes;
 use std::alloc::Global;
@@ -96,6 +98,17 @@ impl<'a, 'g, B: Broker, N: HistoryName, R: Wait> SharedSupply<'a, 'g, B, N, R> {
         }
     }
 
+    /// What its desk does for a client that has no session: where it drains, it begins none.
+    pub(crate) fn newcomers(&self) -> Newcomers
+        ensures { self.now.draining ≡ true → result ≡ Refused }
+    {
+        if self.draining {
+            return Newcomers::Refused;
+        }
+        let shared_broker = self.shared_broker;
+        shared_broker.desk.newcomers()
+    }
+
     /// So many messages at most are to be handed to its members from now on, until it is allowed others. Of a message that was given back and of one that waits
     /// in the queue each counts as one; one that is sent again does not count.
     pub fn allow(&mut self, most: u32)
@@ -130,6 +143,13 @@ impl<'a, 'g, B: Broker, N: HistoryName, R: Wait> SharedSupply<'a, 'g, B, N, R> {
     /// What it counts.
     pub fn counts(&self) -> &SupplyCounts {
         &self.counts
+    }
+
+    /// What it knows of the routes.
+    pub fn known(&self) -> &KnownRoutes<'a>
+        ensures { result.now ≡ self.now.known }
+    {
+        &self.known
     }
 
     /// It drains from now on, where it is told so: it answers each message that is published as a closed broker does, and hands out what waits, and what is given

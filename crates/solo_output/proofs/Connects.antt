@@ -1,5 +1,5 @@
 -- The first packet of the connection is answered as the model has it.
-use Rattle.std.proofs.Common.{◌≡◌, ◌≢◌, ℕ, ◌<◌, ◌≤◌, Bool, false, List, [], ◌∷◌, map, length, replicate, slice_get, slice_set, nat_cmp, Option, Some, None, Result, Ok, Err, refl, sym, ap, ◌∙◌, subst, ⊎_elim, arith}
+use Rattle.std.proofs.Common.{◌≡◌, ◌≢◌, ℕ, ◌<◌, ◌≤◌, Bool, false, List, [], ◌∷◌, map, length, replicate, slice_get, slice_set, nat_cmp, Option, Some, None, Result, Ok, Err, refl, sym, ap, ◌∙◌, subst, ⊎_elim, inl, arith}
 use Rattle.std.specs.FinMap as map
 use Rattle.std.specs.FinMap.{get-empty, len-empty}
 use Rattle.std.specs.Str.{is_utf8, chars}
@@ -11,6 +11,9 @@ use Rattle.mqtt_packet.specs.declared.packet.Connect.{Connect}
 use Rattle.mqtt_packet.specs.Texts.{is_text}
 use Rattle.mqtt_topic.specs.Names.{Share}
 use Rattle.group_jobs.specs.Stamps.{Held}
+use Rattle.session_desk.specs.declared.newcomers.Newcomers.TheVariants.{IfRoom}
+use Rattle.session_desk.specs.Newcomers.{HasRoom}
+use Rattle.session_desk.proofs.Begun.{begun_over}
 use Rattle.session_desk.specs.declared.attached.Attached.{Attached}
 use Rattle.session_desk.specs.declared.attached.Attached.TheVariants.{New, Resumed, Replace, Busy}
 use Rattle.session_desk.specs.declared.error.DeskError.{DeskError}
@@ -100,8 +103,8 @@ module _ (old new : Books Held GroupPlace) (all : HasAllPlaces old) where
   no_row : (number : ℕ) (row : Row Held GroupPlace) → HasRow old.rows number row → ⊥
   no_row number row has = none-some row (sym (get-empty {X = Row Held GroupPlace} nat_cmp number) ∙ ap (λ (rows : Rows Held GroupPlace). map.get rows number) (sym bare) ∙ has)
 
-  not_full : map.len old.rows ≡ 256 → ⊥
-  not_full full = let none = sym (len-empty nat_cmp (Row Held GroupPlace)) ∙ ap map.len (sym bare) ∙ full in absurd (omega (arith, none))
+  not_full : ¬ HasRoom IfRoom old.rows → ⊥
+  not_full full = full (inl (let none = ap map.len bare ∙ len-empty nat_cmp (Row Held GroupPlace) in omega (arith, none)))
 
   begins : (client : List ℕ) (other : Books Held GroupPlace) → other ≡ after_new old client 0 → IsLentAs other.rows (record { number = old.made; client = client }) × (slice_get other.kicked 0 ≡ Some false) × (other.free ≡ old.free)
   begins client other is = (
@@ -116,18 +119,19 @@ module _ (old new : Books Held GroupPlace) (all : HasAllPlaces old) where
     ap (λ (b : Books Held GroupPlace). b.free) is,
   )
 
-  named : (client : List ℕ) (request : Request) (answer : Result (Attached Held GroupPlace) DeskError) → request.connection ≡ 0 → answer ≢ Err errors.Memory → attaches_by client old request answer new → IsFirst client answer old new
+  named : (client : List ℕ) (request : Request) (answer : Result (Attached Held GroupPlace) DeskError) → request.connection ≡ 0 → answer ≢ Err errors.Memory → attaches_by IfRoom client old request answer new → IsFirst client answer old new
   named (byte ∷ bytes) request (Ok (New session None)) first memory does =
       let b = begins (byte ∷ bytes) new (does.after ∙ ap (after_new old (byte ∷ bytes)) first) in
       record {
         who = record { number = old.made; client = byte ∷ bytes };
-        answer_is = ap (λ (s : Session Held GroupPlace). Ok (New s None)) does.is_new.is;
+        answer_is = ap (λ (s : Session Held GroupPlace). Ok (New s None)) does.is;
         lent = b.0;
         kicked = b.1;
         free = b.2;
         name = refl;
       }
-  named (byte ∷ bytes) request (Ok (New session (Some over))) first memory does = absurd (no_row does.number does.row does.its.has)
+  named (byte ∷ bytes) request (Ok (New session (Some over))) first memory does =
+      let h = begun_over IfRoom old new request session (byte ∷ bytes) over does in absurd (no_row h.number h.row h.has)
   named (byte ∷ bytes) request (Ok (Resumed session)) first memory does = absurd (no_row does.number does.row does.its.has)
   named (byte ∷ bytes) request (Ok (Replace holder)) first memory does = absurd (no_row does.number does.row does.its.has)
   named (byte ∷ bytes) request (Ok Busy) first memory does = absurd (no_row does.0.number does.0.row does.0.its.has)
@@ -145,18 +149,19 @@ module _ (old new : Books Held GroupPlace) (all : HasAllPlaces old) where
       (λ (not_more : number ≤ 1). omega (arith, none_yet, above, not_more))
       (cases_lt 1 number) in
       let named_one = after_new old (assigned_name number) 0 in
-      let after : new ≡ after_name named_one number = does.after ∙ ap (λ (c : ℕ). after_name (after_new old (assigned_name number) c) number) first in
+      let after : new ≡ after_name named_one number = does.after ∙ ap (λ (b : Books Held GroupPlace). after_name b number) (does.begins.after ∙ ap (after_new old (assigned_name number)) first) in
       let b = begins (assigned_name number) named_one refl in
       let who : Who = record { number = old.made; client = assigned_name number } in
       record {
         who = who;
-        answer_is = ap (λ (s : Session Held GroupPlace). Ok (New s None)) does.is_new.is;
+        answer_is = ap (λ (s : Session Held GroupPlace). Ok (New s None)) does.begins.is;
         lent = subst (λ (rows : Rows Held GroupPlace). IsLentAs rows who) (ap (λ (o : Books Held GroupPlace). o.rows) (sym after)) b.0;
         kicked = ap (λ (o : Books Held GroupPlace). slice_get o.kicked 0) after ∙ b.1;
         free = ap (λ (o : Books Held GroupPlace). o.free) after ∙ b.2;
         name = ap (λ (n : ℕ). assigned [] (record { number = old.made; client = assigned_name n })) one ∙ first_name old.made;
       }
-  named [] request (Ok (New session (Some over))) first memory does = absurd does
+  named [] request (Ok (New session (Some over))) first memory does =
+      let h = begun_over IfRoom old new request session [] over does in absurd (no_row h.number h.row h.has)
   named [] request (Ok (Resumed session)) first memory does = absurd does
   named [] request (Ok (Replace holder)) first memory does = absurd does
   named [] request (Ok Busy) first memory does = absurd does

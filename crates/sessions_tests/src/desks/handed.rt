@@ -2,7 +2,7 @@
 //! that each test passes with any one allocation refused: a refusal leaves the desk as it was.
 use crate::spot::Spot;
 use bytes::Bytes;
-use session_desk::{All, Attached, Desk, DeskError, Membership, Session};
+use session_desk::{All, Attached, Desk, DeskError, Membership, Newcomers, Session};
 use std::alloc::Global;
 use std::mem;
 use std::process::Abort;
@@ -30,7 +30,7 @@ pub struct Handed {
     pub ended: Option<TestSession>,
 }
 
-/// Asks for a session.
+/// Asks for a session, of which one begins for a newcomer where there is room.
 pub fn ask(
     rt: &impl Abort,
     desk: &mut TestDesk,
@@ -39,11 +39,24 @@ pub fn ask(
     clean: bool,
     now: u64,
 ) -> Handed {
+    ask_as(rt, desk, Newcomers::IfRoom, connection, client, clean, now)
+}
+
+/// Asks for a session.
+pub fn ask_as(
+    rt: &impl Abort,
+    desk: &mut TestDesk,
+    newcomers: Newcomers,
+    connection: u16,
+    client: &Bytes,
+    clean: bool,
+    now: u64,
+) -> Handed {
     if connection >= 1_024 || client.len() > 128 {
         panic!(rt; "out of range");
     }
-    match desk.attach(connection, client, clean, now) {
-        Err(DeskError::Memory) => told_by(desk.attach(connection, client, clean, now)),
+    match desk.attach(newcomers, connection, client, clean, now) {
+        Err(DeskError::Memory) => told_by(desk.attach(newcomers, connection, client, clean, now)),
         answer => told_by(answer),
     }
 }

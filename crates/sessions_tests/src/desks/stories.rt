@@ -1,11 +1,12 @@
 //! Stories of clients and connections.
 use crate::asserting::{assert_items, assert_same};
 use crate::desks::handed::{
-    Answer, TestDesk, ask, both, bury, connect, end, join, leave, nothing, only, open, park, rests,
+    Answer, TestDesk, ask, ask_as, both, bury, connect, end, join, leave, nothing, only, open,
+    park, rests,
 };
 use crate::spot::Spot;
 use bytes::Bytes;
-use session_desk::Membership;
+use session_desk::{Membership, Newcomers};
 use std::alloc::Global;
 use std::process::Abort;
 use std::test::Fail;
@@ -194,18 +195,112 @@ fn full(rt: HostRuntime) -> Result<(), Fail> {
     let mut desk = open(&rt, rt.alloc());
     fill(&rt, rt.alloc(), &mut desk);
     let refused = nothing(&rt, ask(&rt, &mut desk, 1, &further, false, 1));
-    let clean = nothing(&rt, ask(&rt, &mut desk, 1, &known, true, 1));
-    assert_same(
-        &rt,
-        &[refused, clean],
-        &[Answer::Refused(701), Answer::Refused(701)],
-    );
+    assert_same(&rt, &refused, &Answer::Refused(701));
     let resumed = only(
         &rt,
         ask(&rt, &mut desk, 1, &known, false, 1),
         Answer::Resumed,
     );
     park(&rt, &mut desk, resumed, 60, 2);
+    // A client begins anew in the place of its own session, however many there are.
+    let (new, ended) = both(&rt, ask(&rt, &mut desk, 1, &known, true, 3));
+    bury(&rt, &mut desk, Some(ended));
+    park(&rt, &mut desk, new, 60, 4);
+    let refused = nothing(&rt, ask(&rt, &mut desk, 1, &further, false, 5));
+    assert_same(&rt, &refused, &Answer::Refused(701));
     assert_same(&rt, &end(&rt, desk), &(0, 0));
+    Ok(())
+}
+
+/// Asks for a session of a client, and parks it at this moment with a member's place and one that holds something, or without.
+fn busy(rt: &impl Abort, desk: &mut TestDesk, client: &Bytes, place: Option<Spot>, now: u64) {
+    let mut session = only(rt, ask(rt, desk, 1, client, false, now), Answer::Resumed);
+    match place {
+        Some(place) => join(rt, &mut session, Membership::Member(place)),
+        None => {
+            connect(&mut session, 1);
+            assert_same(rt, &session.window.put(7), &Ok(1));
+            session.window.down();
+        }
+    }
+    park(rt, desk, session, 600, now);
+}
+
+#[test]
+fn displaced(rt: HostRuntime) -> Result<(), Fail> {
+    let none = Bytes::from_static(b"");
+    let first = client_of(&rt, rt.alloc(), 0);
+    let second = client_of(&rt, rt.alloc(), 1);
+    let third = client_of(&rt, rt.alloc(), 2);
+    let fourth = client_of(&rt, rt.alloc(), 3);
+    let further = client_of(&rt, rt.alloc(), 256);
+    let mut desk = open(&rt, rt.alloc());
+    fill(&rt, rt.alloc(), &mut desk);
+    // One has a place, one holds something, and one was parked later than the others: the next one has been parked longest.
+    busy(&rt, &mut desk, &first, Some(Spot::First), 0);
+    busy(&rt, &mut desk, &second, None, 0);
+    let resumed = only(
+        &rt,
+        ask(&rt, &mut desk, 1, &third, false, 1),
+        Answer::Resumed,
+    );
+    park(&rt, &mut desk, resumed, 600, 9);
+    let refused = nothing(
+        &rt,
+        ask_as(&rt, &mut desk, Newcomers::Refused, 1, &further, false, 10),
+    );
+    assert_same(&rt, &refused, &Answer::Refused(701));
+    let (new, ended) = both(
+        &rt,
+        ask_as(&rt, &mut desk, Newcomers::Displace, 1, &further, false, 10),
+    );
+    assert_items(&rt, ended.identity.client().as_slice(), fourth.as_slice());
+    bury(&rt, &mut desk, Some(ended));
+    leave(&rt, &mut desk, new, 11);
+    // There is room again: none goes.
+    let new = only(
+        &rt,
+        ask_as(&rt, &mut desk, Newcomers::Displace, 1, &none, false, 12),
+        Answer::New,
+    );
+    let (named, ended) = both(
+        &rt,
+        ask_as(&rt, &mut desk, Newcomers::Displace, 2, &none, false, 13),
+    );
+    assert_items(
+        &rt,
+        named.identity.client().as_slice(),
+        b"auto-00000002".as_slice(),
+    );
+    assert_same(&rt, &ended.identity.number(), &4);
+    bury(&rt, &mut desk, Some(ended));
+    leave(&rt, &mut desk, named, 14);
+    leave(&rt, &mut desk, new, 14);
+    assert_same(&rt, &end(&rt, desk), &(1, 1));
+    Ok(())
+}
+
+#[test]
+fn none_goes_that_is_in_use(rt: HostRuntime) -> Result<(), Fail> {
+    let further = client_of(&rt, rt.alloc(), 256);
+    let known = client_of(&rt, rt.alloc(), 7);
+    let mut desk = open(&rt, rt.alloc());
+    fill(&rt, rt.alloc(), &mut desk);
+    'clients: for number in 0..256u16 {
+        let client = client_of(&rt, rt.alloc(), number);
+        busy(&rt, &mut desk, &client, None, 1);
+    }
+    let refused = nothing(
+        &rt,
+        ask_as(&rt, &mut desk, Newcomers::Displace, 1, &further, false, 2),
+    );
+    assert_same(&rt, &refused, &Answer::Refused(701));
+    let resumed = only(
+        &rt,
+        ask_as(&rt, &mut desk, Newcomers::Refused, 1, &known, false, 2),
+        Answer::Resumed,
+    );
+    park(&rt, &mut desk, resumed, 600, 3);
+    assert_same(&rt, &end(&rt, desk), &(0, 256));
     Ok(())
 }

@@ -8,7 +8,7 @@ use crate::spot::Spot;
 use bytes::Bytes;
 use call_history::HistoryName;
 use group_jobs::Envelope;
-use session_desk::{Attached, DeskError, Session};
+use session_desk::{Attached, DeskError, Newcomers, Session};
 use shared_desk::{DeskCaller, OpenedDesk, SharedDesk};
 use std::marker::Brand;
 use std::sync::Wait;
@@ -59,7 +59,7 @@ pub(crate) fn comes_and_goes<D: HistoryName, R: Wait>(
     requires known { connection < 1024 }
     requires short { length client.now ≤ 128 }
 {
-    match lent(desk.attach(rt, me, connection, client, false, 0)) {
+    match lent(desk.attach(rt, me, desk.newcomers(), connection, client, false, 0)) {
         Some(session) => {
             release(desk.park_as_is(rt, me, session));
             true
@@ -75,9 +75,9 @@ fn takeover<D: HistoryName, R: Wait>(
     me: &mut DeskCaller<Spot, D>,
 ) -> (bool, bool, bool) {
     let client = Bytes::from_static(b"a");
-    let session = lent(desk.attach(rt, me, 0, &client, false, 0));
+    let session = lent(desk.attach(rt, me, desk.newcomers(), 0, &client, false, 0));
     let before = desk.kicked(rt, me, 0);
-    release(lent(desk.attach(rt, me, 1, &client, false, 0)));
+    release(lent(desk.attach(rt, me, desk.newcomers(), 1, &client, false, 0)));
     let behind = desk.kicked(rt, me, 0);
     if let Some(session) = session {
         release(desk.park_as_is(rt, me, session));
@@ -97,7 +97,7 @@ fn takeover_day<D: HistoryName, R: Wait>(rt: &R, opened: OpenedDesk<Spot>) -> (b
 
 #[test]
 fn who_is_asked_for_its_session_is_kicked(rt: HostRuntime) -> Result<(), Fail> {
-    let opened = OpenedDesk::open(rt.alloc())?;
+    let opened = OpenedDesk::open(rt.alloc(), Newcomers::IfRoom)?;
     let told = takeover_day::<Brand, _>(&rt, opened);
     assert_same(&rt, &told, &(false, true, false));
     Ok(())
@@ -117,7 +117,7 @@ fn two_visits<D: HistoryName, R: Wait>(rt: &R, opened: OpenedDesk<Spot>) -> (boo
 
 #[test]
 fn a_client_comes_again(rt: HostRuntime) -> Result<(), Fail> {
-    let opened = OpenedDesk::open(rt.alloc())?;
+    let opened = OpenedDesk::open(rt.alloc(), Newcomers::IfRoom)?;
     let (first, second) = two_visits::<Brand, _>(&rt, opened);
     assert!(rt; first && second);
     Ok(())
@@ -149,7 +149,7 @@ fn places_day<D: HistoryName, R: Wait>(rt: &R, opened: OpenedDesk<Spot>) -> [Opt
 
 #[test]
 fn the_least_free_place_is_lent(rt: HostRuntime) -> Result<(), Fail> {
-    let opened = OpenedDesk::open(rt.alloc())?;
+    let opened = OpenedDesk::open(rt.alloc(), Newcomers::IfRoom)?;
     let lent = places_day::<Brand, _>(&rt, opened);
     assert_same(
         &rt,
@@ -161,6 +161,6 @@ fn the_least_free_place_is_lent(rt: HostRuntime) -> Result<(), Fail> {
 
 #[test]
 fn a_desk_that_nobody_shared(rt: HostRuntime) -> Result<(), Fail> {
-    OpenedDesk::<Spot>::open(rt.alloc())?.abandon();
+    OpenedDesk::<Spot>::open(rt.alloc(), Newcomers::IfRoom)?.abandon();
     Ok(())
 }

@@ -7,6 +7,7 @@ use crate::shared::calls::{comes_and_goes, end};
 use crate::spot::Spot;
 use bytes::Bytes;
 use call_history::HistoryName;
+use session_desk::Newcomers;
 use shared_desk::{DeskCaller, OpenedDesk, SharedDesk};
 use std::marker::Brand;
 use std::sync::Wait;
@@ -58,7 +59,7 @@ fn is_shared_by_threads<T: Sync>() {}
 
 #[test]
 fn two_clients_at_once(rt: HostRuntime) -> Result<(), Fail> {
-    let opened = OpenedDesk::open(rt.alloc())?;
+    let opened = OpenedDesk::open(rt.alloc(), Newcomers::IfRoom)?;
     let counts = both::<Brand, _>(&rt, opened);
     assert_same(&rt, &counts, &(200, 200));
     Ok(())

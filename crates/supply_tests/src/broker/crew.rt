@@ -12,6 +12,7 @@ use call_history::HistoryName;
 use conn_supply::Supply;
 use gate_word::{Gate, GateSeat};
 use group_queue::Nobody;
+use session_desk::Newcomers;
 use shared_desk::OpenedDesk;
 use shared_supply::SharedBroker;
 use std::alloc::Global;
@@ -158,7 +159,7 @@ fn live<M: BrokerName + Send + Sync, C: Crew + Sync, R: Threads + Wait + Sync>(
     requires opened { IsOfBroker M.gate M.group workers opened }
     requires workers { workers ≤ 63 }
 {
-    match OpenedDesk::open(alloc) {
+    match OpenedDesk::open(alloc, Newcomers::Displace) {
         Ok(desk) => live_with::<Witnessed<M, Nobody>, Brand, C, R>(
             rt, alloc, gate, seats, opened, desk, workers, crew,
         ),

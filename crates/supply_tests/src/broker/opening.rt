@@ -7,6 +7,7 @@ use broker_groups::{Broker, BrokerName, BrokerPlace, Key, Named, Opened, Ports, 
 use call_history::HistoryName;
 use gate_word::{Gate, GateSeat};
 use group_queue::Nobody;
+use session_desk::Newcomers;
 use shared_desk::{DeskCaller, OpenedDesk, SharedDesk};
 use shared_routes::SharedRoutes;
 use shared_supply::SharedBroker;
@@ -154,7 +155,7 @@ fn live<M: BrokerName, D: Day, R: Wait>(
     requires opened { IsOfBroker M.gate M.group workers opened }
     requires workers { workers ≤ 63 }
 {
-    match OpenedDesk::open(alloc) {
+    match OpenedDesk::open(alloc, Newcomers::Displace) {
         Ok(desk) => live_with::<Witnessed<M, Nobody>, Brand, D, R>(
             rt, alloc, gate, seats, opened, desk, workers, day,
         ),

@@ -11,4 +11,4 @@ pub returns-clause-told : goal.returns-clause-told
 returns-clause-told g c old new call told = was_told g.P.HoldingPlace.has_out g.P.Place.slot_of g.P.Place.number_of old new call told
 
 pub returns-clause-ready : goal.returns-clause-ready
-returns-clause-ready g c old new request answer told = was_ready g.P.HoldingPlace.has_out g.P.Place.slot_of g.P.Place.number_of old new request answer told
+returns-clause-ready g c newcomers old new request answer told = was_ready g.P.HoldingPlace.has_out g.P.Place.slot_of g.P.Place.number_of newcomers old new request answer told

@@ -1,4 +1,4 @@
-use Rattle.std.proofs.Common.{sym, ◌∙◌, subst}
+use Rattle.std.proofs.Common.{sym, ◌∙◌, subst, inl}
 use Rattle.session_desk.specs.Attaching.{IsStale}
 use Rattle.session_desk.proofs.Kept.{same_parked}
 use Rattle.session_desk.proofs.desk.Desk.begin_over.Goals as goal
@@ -8,11 +8,12 @@ returns-in-Ok g c =
     let row = c.requires.0 in
     let clients = c.requires.2 in
     let opens = c.in-Ok.ensures row clients.has in
-    record {
+    inl record {
       number = c.args.number;
       row = row;
       its = record { has = clients.has; its = clients.its; stands = opens.0 };
       stale = subst (λ s. IsStale s c.args.clean c.args.now) (same_parked c.requires.1 c.in-Ok.ended (sym clients.stands ∙ opens.0)) c.requires.3;
-      is_new = opens.1;
-      after = opens.2;
+      fits = opens.1;
+      is = opens.2;
+      after = opens.3;
     }

@@ -11,7 +11,6 @@ invariant_of-self g c =
     let i = c.self.inside in
     let row = c.requires.0 in
     let has = ap (λ b. map.get b.rows c.args.number) c.self.view_is ∙ c.requires.2 in
-    let few = c.self.invariant.few in
     let same = len_same i.table.rows c.args.number row (away row.client) has in
     subst (λ r. AreFew r.rows i.assigned) (sym (c.in-Ok-begin_over.ensures.ok row has).2)
     (few_more (map.insert i.table.rows c.args.number (away row.client)) i.assigned i.table.made _ (few_moved i.table.rows i.assigned c.args.number row (away row.client) c.self.invariant has) (let len = c.len.ensures in omega arith))
@@ -19,11 +18,10 @@ invariant_of-self g c =
 pub returns-in-Ok-begin_over : goal.returns-in-Ok-begin_over
 returns-in-Ok-begin_over g c = λ row has.
     let i = c.self.inside in
-    let few = c.self.invariant.few in
-    let e = c.in-Ok-begin_over.ensures.ok row (ap (λ b. map.get b.rows c.args.number) c.self.view_is ∙ has) in
-    let room : map.len i.table.rows < 256 = (let len = c.len.ensures in omega arith) in (
+    let e = c.in-Ok-begin_over.ensures.ok row (ap (λ b. map.get b.rows c.args.number) c.self.view_is ∙ has) in (
       e.0,
-      record { room = subst (λ b. map.len b.rows < 256) c.self.view_is room; is = c.new-in-Ok-begin_over.ensures ∙ ap (λ w. new_session w) (e.1 ∙ ap (λ b. next_of b c.args.client.now) c.self.view_is) },
+      subst (λ b. map.len b.rows < 512) c.self.view_is (let len = c.len.ensures in omega arith),
+      c.new-in-Ok-begin_over.ensures ∙ ap (λ w. new_session w) (e.1 ∙ ap (λ b. next_of b c.args.client.now) c.self.view_is),
       (λ j. booked (e.2 j) i.assigned (c.note.ensures j) (c.note-in-Ok-begin_over.ensures j) i.free)
           ∙ ap (λ b. after_new (after_end b c.args.number row) c.args.client.now c.args.connection) c.self.view_is,
     )
