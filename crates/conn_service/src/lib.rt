@@ -17,6 +17,7 @@
 //! No thread and no socket is in it, and no call of it waits, unless one of the transport, the supply or the crossing does.
 #![tactic(auto)]
 
+mod answers;
 mod crossing;
 mod edge;
 pub mod laws;
@@ -27,6 +28,7 @@ mod service;
 mod serving;
 mod stepping;
 
+pub use answers::{Answer, AnswerCounts, LastWord};
 pub use served::{Direction, Round, Served};
 pub use service::Service;
 pub use serving::serve;

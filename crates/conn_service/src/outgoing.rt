@@ -3,6 +3,7 @@ ghost use Rattle.std.specs.Prelude.{◌≡◌, ◌<◌, ◌≤◌, ◌++◌, ◌
 ghost use Rattle.conn_service.specs.Services.{bytes_of, write_room};
 ghost use Rattle.conn_service.specs.Moments.{since_step};
 
+use crate::answers::Answered;
 use conn_supply::NoMemory;
 use mqtt_packet::Packet;
 use mqtt_wire::encode_into;
@@ -120,9 +121,10 @@ fn encode_all(buffer: &mut Vec<u8>, packets: &[Packet]) -> Result<(), NoMemory>
     Ok(())
 }
 
-/// Puts what a step said after what waits. Answers the moment since which nothing was taken: this one, where nothing waited.
+/// Puts what a step said after what waits, and counts it among what was answered. Answers the moment since which nothing was taken: this one, where nothing waited.
 pub(crate) fn put_down(
     outgoing: &mut Outgoing,
+    answered: &mut Answered,
     packets: &[Packet],
     since: u64,
     now: u64,
@@ -134,5 +136,6 @@ pub(crate) fn put_down(
 {
     let later = if outgoing.is_empty() { now } else { since };
     outgoing.put_all(packets)?;
+    answered.note(packets);
     Ok(later)
 }

@@ -6,6 +6,7 @@ ghost use Rattle.conn_engine.specs.Phases.{IsWaiting};
 ghost use Rattle.conn_engine.specs.declared.phase.ConnPhase.TheVariants as phases;
 ghost use Rattle.conn_service.specs.Services.{opened};
 
+use crate::answers::{AnswerCounts, Answered, LastWord};
 use crate::outgoing::Outgoing;
 use crate::served::Served;
 use client_table::Client;
@@ -25,6 +26,8 @@ pub struct Service<P: HoldingPlace, T: Transport> {
     pub(crate) outgoing: Outgoing,
     // The packets of a step, until they are put down.
     pub(crate) packets: Vec<Packet>,
+    // What was answered to its client. No contract speaks of it.
+    pub(crate) answered: Answered,
     // Since when the transport has taken nothing of what waits.
     pub(crate) since: u64,
     // How many writes gave nothing since then, counted up to 600.
@@ -78,6 +81,7 @@ impl<P: HoldingPlace, T: Transport> Service<P, T> {
                 transport,
                 outgoing,
                 packets: Vec::new(alloc),
+                answered: Answered::NOTHING,
                 since: at,
                 refused: 0,
                 ticked: at,
@@ -122,6 +126,24 @@ impl<P: HoldingPlace, T: Transport> Service<P, T> {
         !self.client.wants_input()
     }
 
+    /// The identifier of its client, where that has its session: the one that it connected with, or the one that was assigned to it (sections 3.1.3.1 and
+    /// 3.2.2.3.7).
+    pub fn client_identifier(&self) -> Option<&[u8]> {
+        self.client.identifier()
+    }
+
+    /// The latest CONNACK or DISCONNECT that was sent to its client: also where it still waits to be written.
+    pub fn last_word(&self) -> Option<LastWord> {
+        self.answered.last_word()
+    }
+
+    /// Adds up what was answered to its client since this was called last. Where that is nothing, it costs nothing.
+    pub fn take_answers(&mut self, sum: &mut AnswerCounts)
+        ensures { self.new ≡ self.old }
+    {
+        self.answered.take(sum);
+    }
+
     /// Lets go of a connection wherever it stands, and gives its transport: its client ends as where the broker closes, and nothing is written any more.
     pub fn abandon<S: Supply<P>>(self, supply: &mut S, now: u64) -> T
         ensures transport { result ≡ self.transport }
@@ -132,6 +154,7 @@ impl<P: HoldingPlace, T: Transport> Service<P, T> {
             transport,
             outgoing: _,
             packets: _,
+            answered: _,
             since: _,
             refused: _,
             ticked: _,
@@ -154,6 +177,7 @@ impl<P: HoldingPlace, T: Transport> Service<P, T> {
             transport,
             outgoing: _,
             packets: _,
+            answered: _,
             since: _,
             refused: _,
             ticked: _,

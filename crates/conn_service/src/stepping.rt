@@ -58,7 +58,13 @@ impl<P: HoldingPlace, T: Transport> Service<P, T> {
     {
         self.ticked = ticked_at(&input, now, self.ticked);
         match self.client.step_by(supply, now, input, &mut self.packets) {
-            Ok(_next) => match put_down(&mut self.outgoing, &self.packets, self.since, now) {
+            Ok(_next) => match put_down(
+                &mut self.outgoing,
+                &mut self.answered,
+                &self.packets,
+                self.since,
+                now,
+            ) {
                 Ok(since) => {
                     self.since = since;
                     Ok(())
@@ -92,7 +98,13 @@ impl<P: HoldingPlace, T: Transport> Service<P, T> {
     {
         match self.client.step_front(supply, now, &mut self.packets) {
             Ok(None) => Ok(false),
-            Ok(Some(next)) => match put_down(&mut self.outgoing, &self.packets, self.since, now) {
+            Ok(Some(next)) => match put_down(
+                &mut self.outgoing,
+                &mut self.answered,
+                &self.packets,
+                self.since,
+                now,
+            ) {
                 Ok(since) => {
                     self.since = since;
                     Ok(goes_on(next))

@@ -4,6 +4,7 @@
 mod acting;
 mod alone;
 mod bytes_changed;
+mod counting;
 mod failing;
 mod noting;
 mod played;

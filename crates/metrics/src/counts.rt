@@ -1,6 +1,9 @@
 //! What the workers of a broker have counted, for whoever asks.
 ghost use Rattle.std.specs.Prelude.{◌≡◌, length, IfOk};
 
+use conn_service::AnswerCounts;
+use mqtt_topic::Share;
+use once_cell::race::OnceBox;
 use shared_supply::SupplyCounts;
 use std::alloc::{AllocError, Global};
 use std::sync::{Mutex, Wait};
@@ -13,6 +16,10 @@ pub struct WorkerCounts {
     pub supply: SupplyCounts,
     /// Of connections that have ended.
     pub served: ServedCounts,
+    /// Of what was answered to clients.
+    pub answers: AnswerCounts,
+    /// How many clients have their session.
+    pub connected: u64,
     /// How many connections it took up.
     pub opened: u64,
     /// How often it waited.
@@ -28,6 +35,8 @@ impl WorkerCounts {
     pub const NONE: WorkerCounts = WorkerCounts {
         supply: SupplyCounts::NONE,
         served: ServedCounts::NONE,
+        answers: AnswerCounts::NONE,
+        connected: 0,
         opened: 0,
         turns: 0,
         calls: 0,
@@ -43,6 +52,8 @@ impl WorkerCounts {
     pub fn add(&mut self, other: &WorkerCounts) {
         self.supply.add(&other.supply);
         self.served.add(&other.served);
+        self.answers.add(&other.answers);
+        self.connected = self.connected.saturating_add(other.connected);
         self.opened = self.opened.saturating_add(other.opened);
         self.turns = self.turns.saturating_add(other.turns);
         self.calls = self.calls.saturating_add(other.calls);
@@ -50,17 +61,58 @@ impl WorkerCounts {
     }
 }
 
-/// Where a worker puts what it has counted, for whoever asks. The worker never waits.
+/// How many groups a broker has at most.
+const GROUPS: usize = 8;
+
+/// Where a worker puts what it has counted, and the shares that it knows, for whoever asks. The worker never waits.
 #[derive(Drop)]
 pub struct SharedCounts {
+    alloc: Global,
     latest: Mutex<WorkerCounts>,
+    // The texts of the shares, by their slots.
+    shares: [OnceBox<Vec<u8>>; GROUPS],
 }
 
 impl SharedCounts {
-    /// Nothing was counted.
-    pub fn new() -> SharedCounts {
+    /// Nothing was counted, and no share is known.
+    pub fn new(alloc: Global) -> SharedCounts {
         SharedCounts {
+            alloc,
             latest: Mutex::new(WorkerCounts::NONE),
+            shares: [
+                OnceBox::new(alloc),
+                OnceBox::new(alloc),
+                OnceBox::new(alloc),
+                OnceBox::new(alloc),
+                OnceBox::new(alloc),
+                OnceBox::new(alloc),
+                OnceBox::new(alloc),
+                OnceBox::new(alloc),
+            ],
+        }
+    }
+
+    /// Puts down that this share is bound to this slot, for good. It takes the memory of its text.
+    ///
+    /// # Errors
+    ///
+    /// An allocation failed: the text is not there.
+    pub fn store_share(&self, slot: u8, share: &Share) -> Result<(), AllocError> {
+        let Some(place) = self.shares.get(usize::from(slot)) else {
+            return Ok(());
+        };
+        if place.get().is_none() {
+            let text = Vec::from_slice(self.alloc, share.text())?;
+            let _another = place.set(Box::new(self.alloc, text)?);
+        }
+        Ok(())
+    }
+
+    /// The text of the share that is bound to a slot, where its worker has put it down.
+    pub fn share(&self, slot: usize) -> Option<&[u8]> {
+        match self.shares.get(slot)?.get() {
+            Some(text) => Some(text.as_slice()),
+            None => None,
         }
     }
 
@@ -84,7 +136,7 @@ pub fn shared_counts(alloc: Global, workers: usize) -> Result<Vec<SharedCounts>,
     let mut all = Vec::with_capacity(alloc, workers)?;
     for worker in 0..workers {
         let _ = worker;
-        all.push(SharedCounts::new())?;
+        all.push(SharedCounts::new(alloc))?;
     }
     Ok(all)
 }

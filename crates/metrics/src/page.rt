@@ -38,6 +38,12 @@ button { font: inherit; color: inherit; background: none; border: 1px solid var(
 <thead><tr><th scope="col">Group<th scope="col">Members<th scope="col">Last two minutes<th scope="col"><span class="in">accepted/s</span><th scope="col"><span class="out">settled/s</span><th scope="col">Accepted<th scope="col">Queued<th scope="col">Held<th scope="col">Returned<th scope="col">Acknowledged<th scope="col">Refused<th scope="col">Discarded<th scope="col">Not accepted</tr></thead>
 <tbody id="groups"></tbody></table></div>
 <p class="faint">The solid line has the jobs that are accepted each second, the dashed one those that are settled. Both end at the right, now, and each picture has a scale of its own.</p>
+<div id="refused" hidden>
+<h2 id="refused-head">Refused and ended by the broker</h2>
+<div class="wide narrow" role="region" aria-labelledby="refused-head" tabindex="0"><table>
+<thead><tr><th scope="col">Packet and Reason Code<th scope="col">Sent</tr></thead>
+<tbody id="refusals"></tbody></table></div>
+</div>
 <h2 id="rest-head">Connections, sessions and workers</h2>
 <div class="wide narrow" role="region" aria-labelledby="rest-head" tabindex="0"><table>
 <thead><tr><th scope="col">Number<th scope="col">Now</tr></thead>
@@ -50,6 +56,13 @@ const history = new Map();
 const find = id => document.getElementById(id);
 const shown = number => Math.round(number).toLocaleString('en');
 const unescaped = text => text.replace(/\\(.)/g, (_, next) => next === 'n' ? '\n' : next);
+const PACKETS = { connacks_total: 'CONNACK', pubacks_total: 'PUBACK', subacks_total: 'SUBACK', disconnects_total: 'DISCONNECT' };
+const CODES = {
+  '0x10': 'no matching subscribers', '0x81': 'malformed packet', '0x82': 'protocol error', '0x83': 'implementation specific error',
+  '0x84': 'unsupported protocol version', '0x85': 'client identifier not valid', '0x89': 'server busy', '0x8B': 'server shutting down',
+  '0x8C': 'bad authentication method', '0x8D': 'keep alive timeout', '0x8E': 'session taken over', '0x8F': 'topic filter invalid',
+  '0x94': 'topic alias invalid', '0x95': 'packet too large', '0x97': 'quota exceeded', '0x9A': 'retain not supported', '0x9B': 'QoS not supported',
+};
 let paused = false;
 
 function parsed(text) {
@@ -134,8 +147,16 @@ function drawGroup(samples, group, now) {
   ].forEach((number, i) => { cells[i + 2].textContent = shown(number); });
 }
 
+function drawRefused(samples) {
+  for (const it of samples.filter(it => it.name in PACKETS && it.labels.code in CODES && it.number > 0)) {
+    const { code } = it.labels;
+    find('refused').hidden = false;
+    row(find('refusals'), `${PACKETS[it.name]} ${code}, ${CODES[code]}`, 1).querySelector('td').textContent = shown(it.number);
+  }
+}
+
 function drawRest(samples) {
-  for (const it of samples.filter(it => !('group' in it.labels))) {
+  for (const it of samples.filter(it => !('group' in it.labels) && !('code' in it.labels))) {
     const label = Object.values(it.labels).join(' ');
     const key = it.name.replace(/_total$/, '').replaceAll('_', ' ') + (label ? ', ' + label.replaceAll('_', ' ') : '');
     row(find('rest'), key, 1).querySelector('td').textContent = shown(it.number);
@@ -150,6 +171,7 @@ async function refresh() {
     if (!answer.ok) throw new Error(answer.statusText);
     const samples = parsed(await answer.text()), now = Date.now();
     for (const group of new Set(samples.map(it => it.labels.group))) if (group !== undefined) drawGroup(samples, group, now);
+    drawRefused(samples);
     drawRest(samples);
     if (state.textContent !== 'serving') state.textContent = 'serving';
     state.className = 'faint';

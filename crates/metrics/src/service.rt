@@ -1,8 +1,10 @@
 //! What is told of a broker while it runs.
 use crate::counts::{SharedCounts, WorkerCounts};
 use crate::exposition::{Kind, Label, add_family, add_sample};
+use conn_service::{Answer, AnswerCounts};
+use mqtt_packet::ReasonCode;
 use mqtt_topic::Share;
-use shared_supply::{GroupCounts, SessionCounts};
+use shared_supply::GroupCounts;
 use std::alloc::{AllocError, Global};
 use std::sync::Wait;
 use worker_connections::ServedCounts;
@@ -54,7 +56,8 @@ impl<'a, R: Wait> MetricsService<'a, R> {
         add_jobs(&mut text, &groups)?;
         add_waiting(&mut text, &groups, self.capacity)?;
         add_connections(&mut text, &total)?;
-        add_sessions(&mut text, &total.supply.sessions)?;
+        add_sessions(&mut text, &total)?;
+        add_all_answers(self.alloc, &mut text, &total.answers)?;
         add_workers(self.alloc, &mut text, &counts)?;
         add_number(
             &mut text,
@@ -75,11 +78,11 @@ impl<'a, R: Wait> MetricsService<'a, R> {
         Ok(counts)
     }
 
-    /// The groups to whose slot a share is bound from the start, and those of which anything was counted.
+    /// The groups to whose slot a share is bound, as far as that is known, and those of which anything was counted.
     fn groups(&self, total: &WorkerCounts) -> Result<Vec<Group>, AllocError> {
         let mut groups = Vec::with_capacity(self.alloc, total.supply.groups.len())?;
         for (slot, jobs) in total.supply.groups.iter().enumerate() {
-            if slot < self.shares.len() || *jobs != GroupCounts::NONE {
+            if self.share(slot).is_some() || *jobs != GroupCounts::NONE {
                 groups.push(Group {
                     name: self.name(slot)?,
                     jobs: *jobs,
@@ -89,11 +92,19 @@ impl<'a, R: Wait> MetricsService<'a, R> {
         Ok(groups)
     }
 
-    /// What the group of a slot is called: by its share, or by its slot where that was bound later.
+    /// What the group of a slot is called: by its share, or by its slot where no worker has told that yet.
     fn name(&self, slot: usize) -> Result<Vec<u8>, AllocError> {
-        match self.shares.get(slot) {
-            Some(share) => Vec::from_slice(self.alloc, share.text()),
+        match self.share(slot) {
+            Some(text) => Vec::from_slice(self.alloc, text),
             None => Ok(format!(in self.alloc; "slot {slot}")?.into_bytes()),
+        }
+    }
+
+    /// The text of the share that is bound to a slot: from the start, or by a client, as far as a worker has told it.
+    fn share(&self, slot: usize) -> Option<&[u8]> {
+        match self.shares.get(slot) {
+            Some(share) => Some(share.text()),
+            None => self.workers.iter().find_map(|worker| worker.share(slot)),
         }
     }
 }
@@ -257,6 +268,13 @@ fn add_connections(text: &mut Vec<u8>, counts: &WorkerCounts) -> Result<(), Allo
     )?;
     add_number(
         text,
+        "share_broker_connections_connected",
+        "Of these, connections whose client has its session.",
+        Kind::Gauge,
+        counts.connected,
+    )?;
+    add_number(
+        text,
         "share_broker_connections_opened_total",
         "Connections that a worker took up.",
         Kind::Counter,
@@ -287,7 +305,8 @@ fn add_ended(text: &mut Vec<u8>, served: &ServedCounts) -> Result<(), AllocError
     Ok(())
 }
 
-fn add_sessions(text: &mut Vec<u8>, sessions: &SessionCounts) -> Result<(), AllocError> {
+fn add_sessions(text: &mut Vec<u8>, counts: &WorkerCounts) -> Result<(), AllocError> {
+    let sessions = &counts.supply.sessions;
     add_number(
         text,
         "share_broker_sessions",
@@ -311,10 +330,12 @@ fn add_sessions(text: &mut Vec<u8>, sessions: &SessionCounts) -> Result<(), Allo
     )?;
     add_number(
         text,
-        "share_broker_sessions_asked_back_total",
-        "How often a session was asked back from another connection of its client; who waits for it asks again at each of its Ticks.",
+        "share_broker_sessions_taken_over_total",
+        "How often a connection was told to end, as its client connected anew and took its session over.",
         Kind::Counter,
-        sessions.asked_back,
+        counts
+            .answers
+            .of(&Answer::Disconnect(ReasonCode::SESSION_TAKEN_OVER)),
     )?;
     add_number(
         text,
@@ -330,6 +351,83 @@ fn add_sessions(text: &mut Vec<u8>, sessions: &SessionCounts) -> Result<(), Allo
         Kind::Counter,
         sessions.ended,
     )
+}
+
+/// Adds how often each Reason Code was sent.
+fn add_all_answers(
+    alloc: Global,
+    text: &mut Vec<u8>,
+    answers: &AnswerCounts,
+) -> Result<(), AllocError> {
+    add_answers(
+        alloc,
+        text,
+        "share_broker_connacks_total",
+        "CONNACK packets that were sent, by their Reason Code.",
+        answers,
+        |answer| match answer {
+            Answer::Connack(code) => Some(code),
+            _ => None,
+        },
+    )?;
+    add_answers(
+        alloc,
+        text,
+        "share_broker_pubacks_total",
+        "PUBACK packets that were sent, by their Reason Code.",
+        answers,
+        |answer| match answer {
+            Answer::Puback(code) => Some(code),
+            _ => None,
+        },
+    )?;
+    add_answers(
+        alloc,
+        text,
+        "share_broker_subacks_total",
+        "Entries of SUBACK packets that were sent, by their Reason Code.",
+        answers,
+        |answer| match answer {
+            Answer::Suback(code) => Some(code),
+            _ => None,
+        },
+    )?;
+    add_answers(
+        alloc,
+        text,
+        "share_broker_disconnects_total",
+        "DISCONNECT packets that were sent, by their Reason Code.",
+        answers,
+        |answer| match answer {
+            Answer::Disconnect(code) => Some(code),
+            _ => None,
+        },
+    )
+}
+
+/// Adds how often a kind of packet was sent, by its Reason Codes.
+fn add_answers<F: Fn(Answer) -> Option<ReasonCode>>(
+    alloc: Global,
+    text: &mut Vec<u8>,
+    name: &str,
+    help: &str,
+    answers: &AnswerCounts,
+    code_of: F,
+) -> Result<(), AllocError>
+    requires { F.IsAlwaysCallable code_of }
+{
+    add_family(text, name, help, Kind::Counter)?;
+    for (answer, count) in answers.all() {
+        if let Some(code) = code_of(answer) {
+            let code = format!(in alloc; "0x{:02X}", code.get())?;
+            let label = Label {
+                name: "code",
+                value: code.as_bytes(),
+            };
+            add_sample(text, name, &[label], count)?;
+        }
+    }
+    Ok(())
 }
 
 fn add_workers(

@@ -5,6 +5,7 @@ use Rattle.std.specs.List.{AllByRecursion}
 use Rattle.std.proofs.lemmas.List.Elements.{All-cons, All-nil}
 use Rattle.std.proofs.lemmas.List.Sums.{sum_by-append, sum_by-cons}
 use Rattle.group_jobs.specs.Stamps.{Held}
+use Rattle.session_desk.specs.declared.newcomers.Newcomers.{Newcomers}
 use Rattle.session_desk.specs.Everything.{free_in, place_of, places_given}
 use Rattle.session_desk.specs.declared.attached.Attached.{Attached}
 use Rattle.session_desk.specs.declared.attached.Attached.TheVariants.{New, Resumed, Replace, Busy}
@@ -81,12 +82,12 @@ still_within old new call told within =
     (within_more before (call ∷ []) old.own (within_more old.calls told.since old.own within)))
 
 -- what a session that is asked for brings
-given_out : (request : Request) (answer : Result (Attached Held PlaceState) DeskError) → places_out (desk.Attach request answer) ≡ places_given answer
-given_out request (Ok (New session ended)) = refl
-given_out request (Ok (Resumed session)) = refl
-given_out request (Ok (Replace holder)) = refl
-given_out request (Ok Busy) = refl
-given_out request (Err error) = refl
+given_out : (newcomers : Newcomers) (request : Request) (answer : Result (Attached Held PlaceState) DeskError) → places_out (desk.Attach newcomers request answer) ≡ places_given answer
+given_out newcomers request (Ok (New session ended)) = refl
+given_out newcomers request (Ok (Resumed session)) = refl
+given_out newcomers request (Ok (Replace holder)) = refl
+given_out newcomers request (Ok Busy) = refl
+given_out newcomers request (Err error) = refl
 
 missed_desk : (is_missed : Bool) (worker : Worker) → (missing is_missed worker).desk ≡ worker.desk
 missed_desk true worker = refl
@@ -159,7 +160,7 @@ module _ (measure : PlaceState → ℕ) where
     module _ (group : ℕ → GroupId) (seen : Sights) where
       called : (call : SupplyCall PlaceState) (old new : Worker) → Calls group seen old call new → Gains call → AreWithin old.desk → BalancesCall old.desk call new.desk
       called (Attach request answer) old new is none within =
-          asked (waking old (asking_back answer old.wakes)) new (Attach request answer) (desk.Attach request answer) is within none refl (omega (arith, ap (sum_by measure) (given_out request answer)))
+          asked (waking old (asking_back answer old.wakes)) new (Attach request answer) (desk.Attach is.0 request answer) is.2 within none refl (omega (arith, ap (sum_by measure) (given_out is.0 request answer)))
       called (Withdraw connection) old new is none within = asked old new (Withdraw connection) (desk.Withdraw connection) is within none refl (omega arith)
       called (Kicked connection answer) old new (inl same) none within = apart old.desk new.desk (Kicked connection answer) (ap (λ (w : Worker). w.desk) same.1) within none refl refl
       called (Kicked connection answer) old new (inr told) none within = asked old new (Kicked connection answer) (desk.Kicked connection answer) told within none refl (omega arith)

@@ -24,7 +24,13 @@ use Rattle.conn_service.specs.Acts.{Act, Enters, Leaves as Left, Asks, Reads, Wr
 use Rattle.conn_service.specs.Lives.{Does, DoesAll}
 use Rattle.conn_service.specs.Services.{ServiceState}
 use Rattle.conn_service.specs.Visits.{Stand, Outside, Behind, Treads, Walks}
-use Rattle.shared_supply.specs.Calls.{Calls, OffersIn, missing}
+use Rattle.group_jobs.specs.Stamps.{Held}
+use Rattle.session_desk.specs.Attaching.{Request}
+use Rattle.session_desk.specs.Calls as desk
+use Rattle.session_desk.specs.declared.attached.Attached.{Attached}
+use Rattle.session_desk.specs.declared.error.DeskError.{DeskError}
+use Rattle.session_desk.specs.declared.newcomers.Newcomers.TheVariants.{Refused}
+use Rattle.shared_supply.specs.Calls.{Calls, IsToldOfDesk, OffersIn, missing}
 use Rattle.shared_supply.specs.Workers.{Worker, Begins, Leaves, is_visiting}
 use Rattle.worker_connections.specs.Chains.{Deed, Opened, Closed, Allowed, MadeRound, Passed, Called, Notified, NotifiedAll, Waited, Makes, MakesAll, RunState}
 use Rattle.worker_connections.specs.Draining.{tells_to_drain}
@@ -66,8 +72,13 @@ module _ (group : ℕ → GroupId) (seen : Sights) where
   shut_without_group old slot message new (inl is) = is.0
   shut_without_group old slot message new (inr is) = absurd (answered_otherwise is.1.0 is.1.2)
 
+  -- a worker that drains has the desk begin no session for a newcomer
+  pub begins_none : (old new : Worker) (request : Request) (answer : Result (Attached Held PlaceState) DeskError) → Calls group seen old (Attach request answer) new → old.draining ≡ true
+      → IsToldOfDesk old.desk (desk.Attach Refused request answer) new.desk
+  begins_none old new request answer asks drains = subst (λ newcomers. IsToldOfDesk old.desk (desk.Attach newcomers request answer) new.desk) (asks.1 drains) asks.2.0
+
   called : (supply_call : SupplyCall PlaceState) (old new : Worker) → Calls group seen old supply_call new → StaysShut old new
-  called (Attach request answer) old new is = record { as_before = ap (λ (w : Worker). w.draining) is.1; accepted_none = λ drains. ap (λ (w : Worker). w.ports) is.1 }
+  called (Attach request answer) old new is = record { as_before = ap (λ (w : Worker). w.draining) is.2.1; accepted_none = λ drains. ap (λ (w : Worker). w.ports) is.2.1 }
   called (Withdraw connection) old new is = record { as_before = ap (λ (w : Worker). w.draining) is.1; accepted_none = λ drains. ap (λ (w : Worker). w.ports) is.1 }
   called (Kicked connection answer) old new (inl stays) = same old new stays.1
   called (Kicked connection answer) old new (inr told) = record { as_before = ap (λ (w : Worker). w.draining) told.1; accepted_none = λ drains. ap (λ (w : Worker). w.ports) told.1 }

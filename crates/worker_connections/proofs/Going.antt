@@ -71,10 +71,10 @@ module _ (group : ℕ → GroupId) (seen : Sights) where
       → Calls group seen old (Attach request answer) new → session_given answer ≡ Some session → session.window.retired ≡ false
   handed_out old new request (Ok (New fresh ended)) session asked given =
       subst (λ (s : Session Held PlaceState). s.window.retired ≡ false) (same_session fresh session given)
-      (was_ready HasOut slot_of number_of old.desk new.desk request (Ok (New fresh ended)) asked.0).0.going
+      (was_ready HasOut slot_of number_of asked.0 old.desk new.desk request (Ok (New fresh ended)) asked.2.0).0.going
   handed_out old new request (Ok (Resumed parked)) session asked given =
       subst (λ (s : Session Held PlaceState). s.window.retired ≡ false) (same_session parked session given)
-      (was_ready HasOut slot_of number_of old.desk new.desk request (Ok (Resumed parked)) asked.0).going
+      (was_ready HasOut slot_of number_of asked.0 old.desk new.desk request (Ok (Resumed parked)) asked.2.0).going
   handed_out old new request (Ok (Replace holder)) session asked given = absurd (cc given)
   handed_out old new request (Ok Busy) session asked given = absurd (cc given)
   handed_out old new request (Err error) session asked given = absurd (cc given)

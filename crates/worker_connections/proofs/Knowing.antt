@@ -59,7 +59,7 @@ slot_of place = place.group
 
 module _ (group : ℕ → GroupId) (seen : Sights) where
   called : (supply_call : SupplyCall PlaceState) (old new : Worker) → Calls group seen old supply_call new → ties new ≡ ties old
-  called (Attach request answer) old new is = asked (waking old (asking_back answer old.wakes)) new (desk.Attach request answer) is
+  called (Attach request answer) old new is = asked (waking old (asking_back answer old.wakes)) new (desk.Attach is.0 request answer) is.2
   called (Withdraw connection) old new is = asked old new (desk.Withdraw connection) is
   called (Kicked connection answer) old new (inl same) = ap ties same.1
   called (Kicked connection answer) old new (inr told) = asked old new (desk.Kicked connection answer) told

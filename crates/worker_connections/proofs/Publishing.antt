@@ -76,7 +76,7 @@ module _ (group : ℕ → GroupId) (seen : Sights) where
   OffersOrStays is_draining supply_call old new = ((offer_of supply_call ≡ None) × (new ≡ old)) ⊎ IsOfferOf is_draining supply_call old new
 
   called : (supply_call : SupplyCall PlaceState) (old new : Worker) → Calls group seen old supply_call new → OffersOrStays old.draining supply_call old.ports new.ports
-  called (Attach request answer) old new is = inl (refl, ap (λ (w : Worker). w.ports) is.1)
+  called (Attach request answer) old new is = inl (refl, ap (λ (w : Worker). w.ports) is.2.1)
   called (Withdraw connection) old new is = inl (refl, ap (λ (w : Worker). w.ports) is.1)
   called (Kicked connection answer) old new (inl same) = inl (refl, ap (λ (w : Worker). w.ports) same.1)
   called (Kicked connection answer) old new (inr told) = inl (refl, ap (λ (w : Worker). w.ports) told.1)

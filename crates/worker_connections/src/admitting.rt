@@ -6,12 +6,14 @@ ghost use Rattle.worker_connections.specs.Serving.{Admits, TakesIn, TellsCell, r
 use crate::admission::Admission;
 use crate::arrived::Arrived;
 use crate::cell_outcome::CellOutcome;
+use crate::notice::Notice;
 use crate::poller::Poller;
 use crate::served::ServedCounts;
 use crate::table::ServiceTable;
 use broker_groups::{Broker, BrokerPlace};
 use conn_engine::Opening;
-use conn_service::{Round, Served};
+use conn_service::{LastWord, Round, Served};
+use conn_supply::HoldingPlace;
 use transport::Transport;
 
 /// Opens a connection that came, at this moment, with the number of its cell; where it can't, it closes it and counts it as ended.
@@ -71,8 +73,10 @@ fn admit<B: Broker, T: Transport, Q: Poller<T>>(
     }
 }
 
-/// What the connection in a cell waits for after a round; where it has ended, it is closed. `None` where there is none.
-pub(crate) fn settle<T: Transport, Q: Poller<T>>(
+/// What the connection in a cell waits for after the latest round, which was its; where it has ended, it is closed. `None` where there is none. The poller is told
+/// that its client got its session, or that it ended.
+pub(crate) fn settle<P: HoldingPlace, T: Transport, Q: Poller<T>>(
+    table: &ServiceTable<P, T>,
     poller: &mut Q,
     cell: usize,
     cell_outcome: CellOutcome<T>,
@@ -82,10 +86,40 @@ pub(crate) fn settle<T: Transport, Q: Poller<T>>(
 {
     match cell_outcome {
         CellOutcome::Vacant => None,
-        CellOutcome::Goes(round) => Some(round),
+        CellOutcome::Goes(round) => {
+            tell_connected(table, poller, cell);
+            Some(round)
+        }
         CellOutcome::Ended(served, transport) => {
+            let last = table.last_word();
+            poller.notice(cell, &Notice::Ended { served, last });
             poller.close(Some(cell), transport);
             Some(Round::Ended(served))
         }
+    }
+}
+
+/// Tells the poller that the client in a cell got its session, if it did in the latest round.
+fn tell_connected<P: HoldingPlace, T: Transport, Q: Poller<T>>(
+    table: &ServiceTable<P, T>,
+    poller: &mut Q,
+    cell: usize,
+)
+    ensures { Q.poller_calls poller.new ≡ Q.poller_calls poller.old }
+{
+    if let Some(client) = table.newly_connected(cell) {
+        let session_present = matches!(
+            table.last_word(),
+            Some(LastWord::Accepted {
+                session_present: true
+            })
+        );
+        poller.notice(
+            cell,
+            &Notice::Connected {
+                client,
+                session_present,
+            },
+        );
     }
 }

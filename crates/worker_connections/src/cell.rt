@@ -4,6 +4,7 @@ ghost use Rattle.transport.specs.Counting.{no_counts};
 ghost use Rattle.worker_connections.specs.Cells.{FollowsIn, Opens, Refuses, Turns, ended_by, taken};
 
 use crate::cell_outcome::CellOutcome;
+use crate::round_notes::RoundNotes;
 use conn_engine::Opening;
 use conn_service::{Direction, Round, Service};
 use conn_supply::{HoldingPlace, Supply};
@@ -92,9 +93,10 @@ fn put<P: HoldingPlace, T: Transport>(cell: &mut Option<Seat<P, T>>, service: Se
     }
 }
 
-/// The connection goes on by a round, where there is one; if it ended, it leaves the cell.
+/// The connection goes on by a round, where there is one, which is noted; if it ended, it leaves the cell.
 pub(crate) fn round<P: HoldingPlace, T: Transport, S: Supply<P>, X: Crossing>(
     cell: &mut Option<Seat<P, T>>,
+    notes: &mut RoundNotes,
     supply: &mut S,
     crossing: &X,
     worker: u32,
@@ -111,7 +113,9 @@ pub(crate) fn round<P: HoldingPlace, T: Transport, S: Supply<P>, X: Crossing>(
         return CellOutcome::Vacant;
     };
     let mut service = seat.into_service();
+    let had_session = service.client_identifier().is_some();
     let round = service.round(supply, crossing, worker, now, buffer, direction);
+    notes.note(had_session, &mut service);
     match round {
         Round::Ended(served) => CellOutcome::Ended(served, service.end()),
         Round::More => {

@@ -19,6 +19,7 @@ use crate::admitting::{settle, take_in};
 use crate::arrived::Arrived;
 use crate::cell_outcome::CellOutcome;
 use crate::handle::WorkerHandle;
+use crate::notice::Tallies;
 use crate::noting::{note_held, note_interest};
 use crate::poller::Poller;
 use crate::returned::Returned;
@@ -245,9 +246,14 @@ impl<'a, 'g, B: Broker, N: HistoryName, T: Transport + Drop, Q: Poller<T>, R: Wa
         requires in_time { at_most ≤ sweep_period }
         ensures { (now : ℕ) × (drains : Bool) × (self.new ≡ record self.old { supply = draining_if drains self.old.supply; poller_calls = with_call (WaitCall at_most now drains) self.old.poller_calls; sweeps = looked now self.old.sweeps }) }
     {
-        let woken = self
-            .poller
-            .wait(rt, at_most, self.supply.counts(), &self.served);
+        let told = Tallies {
+            supply: self.supply.counts(),
+            served: &self.served,
+            answers: self.table.answers(),
+            connected: self.table.connected(),
+            routes: self.supply.known(),
+        };
+        let woken = self.poller.wait(rt, at_most, &told);
         self.sweeps.look(woken.now);
         self.supply.drain_if(woken.drains);
         woken.called
@@ -346,7 +352,7 @@ impl<'a, 'g, B: Broker, N: HistoryName, T: Transport + Drop, Q: Poller<T>, R: Wa
             &cell_outcome,
             &mut self.members,
         );
-        settle(&mut self.poller, cell, cell_outcome)
+        settle(&self.table, &mut self.poller, cell, cell_outcome)
     }
 
     /// What they had of the broker and know of its routes and its desk, the end of the channel, how they ended, and where their worker waited: these are what their run has

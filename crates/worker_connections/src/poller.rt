@@ -3,9 +3,8 @@ ghost use Rattle.std.specs.Prelude.{◌≡◌, List, Option};
 ghost use Rattle.worker_connections.specs.Arrivals.{IsWatched};
 ghost use Rattle.worker_connections.specs.PollerCalls.{PollerCall, Register, Close, Wait as WaitCall, with_call};
 
-use crate::served::ServedCounts;
+use crate::notice::{Notice, Tallies};
 use bell::Wake;
-use shared_supply::SupplyCounts;
 use std::sync::Wait;
 use transport::{Crossing, Transport};
 
@@ -38,15 +37,13 @@ pub trait Poller<T: Transport>: Crossing {
     fn close(&mut self, number: Option<usize>, transport: T)
         ensures { poller_calls self.new ≡ with_call (Close number transport) (poller_calls self.old) };
 
-    /// Waits until something may be read or written, or the worker is called, or for so many milliseconds. It is told what the worker counts: of its messages and
-    /// its sessions, and of its connections that have ended.
-    fn wait<R: Wait>(
-        &mut self,
-        rt: &R,
-        at_most: u64,
-        counts: &SupplyCounts,
-        served: &ServedCounts,
-    ) -> Woken
+    /// Is told what became of the connection that is watched under this number, in the round in which it did; where it ended, it is closed next. One that could not be
+    /// opened is closed, and nothing is told.
+    fn notice(&mut self, number: usize, notice: &Notice<'_>)
+        ensures { poller_calls self.new ≡ poller_calls self.old };
+
+    /// Waits until something may be read or written, or the worker is called, or for so many milliseconds. It is told what the worker counts until then.
+    fn wait<R: Wait>(&mut self, rt: &R, at_most: u64, told: &Tallies<'_>) -> Woken
         ensures { poller_calls self.new ≡ with_call (WaitCall at_most result.now result.drains) (poller_calls self.old) };
 
     /// The number of one that may be read or written, by the last wait.

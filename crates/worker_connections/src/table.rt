@@ -6,8 +6,9 @@ ghost use Rattle.worker_connections.specs.Cells.{FollowsIn, InCell, Opens, Refus
 use crate::cell;
 use crate::cell::Seat;
 use crate::cell_outcome::CellOutcome;
+use crate::round_notes::RoundNotes;
 use conn_engine::Opening;
-use conn_service::Direction;
+use conn_service::{AnswerCounts, Direction, LastWord};
 use conn_supply::{HoldingPlace, NoMemory, Supply};
 use std::alloc::{AllocError, Global};
 use std::marker::Model;
@@ -19,6 +20,8 @@ use transport::{Crossing, Transport};
 pub struct ServiceTable<P: HoldingPlace, T: Transport> {
     cells: Vec<Option<Seat<P, T>>>,
     alloc: Global,
+    // No contract speaks of it.
+    notes: RoundNotes,
 }
 
 impl<P: HoldingPlace, T: Transport> Model for ServiceTable<P, T> {
@@ -41,7 +44,11 @@ impl<P: HoldingPlace, T: Transport> ServiceTable<P, T> {
         ensures count { IfOk result (λ table. occupied table ≡ 0) }
     {
         let cells = free_cells(alloc, usize::from(count))?;
-        Ok(ServiceTable { cells, alloc })
+        Ok(ServiceTable {
+            cells,
+            alloc,
+            notes: RoundNotes::NONE,
+        })
     }
 
     /// How many cells there are.
@@ -95,6 +102,7 @@ impl<P: HoldingPlace, T: Transport> ServiceTable<P, T> {
     {
         cell::round(
             &mut self.cells[cell],
+            &mut self.notes,
             supply,
             crossing,
             worker,
@@ -138,6 +146,32 @@ impl<P: HoldingPlace, T: Transport> ServiceTable<P, T> {
         }
     }
 
+    /// What was answered to the clients.
+    pub fn answers(&self) -> &AnswerCounts {
+        &self.notes.answers
+    }
+
+    /// How many clients have their session.
+    pub fn connected(&self) -> u64 {
+        self.notes.connected
+    }
+
+    /// The latest CONNACK or DISCONNECT to the client of the latest round, also where that round ended its connection.
+    pub fn last_word(&self) -> Option<LastWord> {
+        self.notes.last_word
+    }
+
+    /// The identifier of the client in a cell, where the latest round was its and gave it its session, which it has.
+    pub fn newly_connected(&self, cell: usize) -> Option<&[u8]> {
+        if !self.notes.got_session {
+            return None;
+        }
+        match self.cells.get(cell) {
+            Some(Some(seat)) => seat.service().client_identifier(),
+            Some(None) | None => None,
+        }
+    }
+
     /// Whether all cells are free.
     pub fn is_empty(&self) -> bool
         ensures free { IsTrue result ↔ All (λ cell. cell ≡ None) self.now }
@@ -153,7 +187,11 @@ impl<P: HoldingPlace, T: Transport> ServiceTable<P, T> {
         T: Drop,
         ensures free { occupied self ≡ 0 → supply.new ≡ supply.old }
     {
-        let ServiceTable { cells, alloc: _ } = self;
+        let ServiceTable {
+            cells,
+            alloc: _,
+            notes: _,
+        } = self;
         abandon_each(cells, supply, now);
     }
 }

@@ -16,7 +16,7 @@ use std::test::Fail;
 use transport::{OpenCrossing, Transport};
 
 /// A connection of this number, opened at the moment 0.
-fn open<T: Transport + Drop>(
+pub(crate) fn open<T: Transport + Drop>(
     rt: &impl Abort,
     alloc: Global,
     number: u16,
@@ -33,7 +33,7 @@ fn open<T: Transport + Drop>(
 }
 
 /// One round, after which the connection waits so.
-fn goes_on<T: Transport>(
+pub(crate) fn goes_on<T: Transport>(
     rt: &impl Abort,
     service: &mut Service<LocalPlace, T>,
     supply: &mut LocalSupply,
