@@ -1,6 +1,8 @@
 -- Words ask for one thing.
-use Rattle.std.proofs.Common.{◌≡◌, ◌∙◌, ◌≤◌, ℕ, List, [], ◌∷◌, Option, Some, None, Ok, Err, ap, arith, codes, inl, inr, refl, rules, subst, sym}
-use Rattle.std.specs.Prelude.{IsSome}
+use Rattle.std.proofs.Common.{◌≡◌, ◌∙◌, ◌≤◌, ℕ, Bool, true, false, List, [], ◌∷◌, Option, Some, None, Ok, Err, ap, arith, codes, inl, inr, refl, rules, subst, sym}
+use Rattle.std.specs.Prelude.{IsSome, ◌==◌, if◌then◌else◌}
+use Rattle.broker_log.specs.declared.level.Level.{Level}
+use Rattle.broker_log.specs.declared.level.Level.TheVariants as levels
 use Rattle.std.specs.Coded.{×_prop, le_prop}
 use mathlib.Core.HLevel.{is_prop→PathP}
 use Rattle.std.specs.Net.Grammar.{IsIpv4Text}
@@ -12,7 +14,7 @@ use Rattle.clap.specs.declared.error.kind.ErrorKind.{ErrorKind}
 use Rattle.conn_rules.specs.declared.setup.Setup.{Setup}
 use Rattle.arguments.specs.Groups.{Adds, AddsEach, RefusesOne, share_named}
 use Rattle.arguments.specs.Options.{HasNumber, pairs_in}
-use Rattle.arguments.specs.CommandLine.{AreReadAs, AskFor, HaveNoService, HaveRefusedPair, IsServiceBy, IsSetupBy, SpellNoRequest, command_line, word_of}
+use Rattle.arguments.specs.CommandLine.{AreReadAs, AskFor, HaveNoService, HaveRefusedPair, IsServiceBy, IsSetupBy, SpellNoRequest, command_line, flag_word, level_word, word_of}
 use Rattle.arguments.specs.declared.command.Request.{Request}
 use Rattle.arguments.specs.declared.command.Request.TheVariants.{Drive, Serve, Solo}
 use Rattle.arguments.specs.declared.groups.Refusal.{Refusal}
@@ -75,6 +77,35 @@ one_word Killed Stdin same =
     let letters : 107 ≡ 115 = ap first_letter same in
     absurd (omega (arith, letters))
 
+-- what the letter that a word of `--log` begins with says
+abbrev level_by : ℕ → Level
+level_by letter = if letter == 101 then levels.Error else (if letter == 105 then levels.Info else (if letter == 100 then levels.Debug else levels.Off))
+
+level_back : (level : Level) → level_by (first_letter (level_word level)) ≡ level
+level_back levels.Off = refl
+level_back levels.Error = refl
+level_back levels.Info = refl
+level_back levels.Debug = refl
+
+one_level : (a b : Level) → level_word a ≡ level_word b → a ≡ b
+one_level a b same = sym (level_back a) ∙ ap (λ word. level_by (first_letter word)) same ∙ level_back b
+
+one_log : (rows : List Row) (a b : ServeOptions) → IsServiceBy rows a → IsServiceBy rows b → a.log ≡ b.log
+one_log rows a b h i = one_level a.log b.log (same_text _ (level_word a.log) (level_word b.log) h.log i.log)
+
+one_flag : (a b : Bool) → flag_word a ≡ flag_word b → a ≡ b
+one_flag true true same = refl
+one_flag false false same = refl
+one_flag true false same =
+    let letters : 116 ≡ 102 = ap first_letter same in
+    absurd (omega (arith, letters))
+one_flag false true same =
+    let letters : 102 ≡ 116 = ap first_letter same in
+    absurd (omega (arith, letters))
+
+one_keep : (rows : List Row) (a b : ServeOptions) → IsServiceBy rows a → IsServiceBy rows b → a.keep_parked ≡ b.keep_parked
+one_keep rows a b h i = one_flag a.keep_parked b.keep_parked (same_text _ (flag_word a.keep_parked) (flag_word b.keep_parked) h.keep_parked i.keep_parked)
+
 one_until : (rows : List Row) (a b : ServeOptions) → IsServiceBy rows a → IsServiceBy rows b → a.until ≡ b.until
 one_until rows a b h i = one_word a.until b.until (same_text _ (word_of a.until) (word_of b.until) h.until i.until)
 
@@ -90,10 +121,12 @@ one_service rows a b h i =
     let until = one_until rows a b h i in
     let drain = one_number (codes "drain") 0 86400 rows a.drain b.drain h.drain i.drain in
     let metrics = one_number (codes "metrics") 0 65535 rows a.metrics b.metrics h.metrics i.metrics in
+    let log = one_log rows a b h i in
+    let keep_parked = one_keep rows a b h i in
     let capacity = one_number (codes "capacity") 1 65536 rows a.setup.capacity b.setup.capacity h.capacity i.capacity in
     let max_inflight = one_number (codes "max-inflight") 1 256 rows a.setup.max_inflight b.setup.max_inflight h.max_inflight i.max_inflight in
     let groups = each_one (pairs_in rows) [] a.setup.groups b.setup.groups h.groups i.groups in
-    (λ i. record { address = address i; port = port i; workers = workers i; until = until i; drain = drain i; metrics = metrics i; setup = made (capacity i) (max_inflight i) (groups i); few = is_prop→PathP (λ j. IsFew (workers j)) (λ j. ×_prop le_prop le_prop) a.few b.few i })
+    (λ i. record { address = address i; port = port i; workers = workers i; until = until i; drain = drain i; metrics = metrics i; log = log i; keep_parked = keep_parked i; setup = made (capacity i) (max_inflight i) (groups i); few = is_prop→PathP (λ j. IsFew (workers j)) (λ j. ×_prop le_prop le_prop) a.few b.few i })
 
 one_reading : (words : List Text) (a b : Text) (x y : List Row) → AreReadAs words a x → AreReadAs words b y → (a ≡ b) × (y ≡ x)
 one_reading words a b x y h i = same_pair (subcommand_of command_line words) a b x y h.1 i.1

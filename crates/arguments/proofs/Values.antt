@@ -1,10 +1,12 @@
 -- What the getters of clap read of the options of `serve`.
-use Rattle.std.proofs.Common.{◌≡◌, ◌∙◌, ◌<◌, ◌^◌, ℕ, List, Option, Some, None, Result, Ok, Err, ap, codes, refl, sym, subst}
+use Rattle.std.proofs.Common.{◌≡◌, ◌∙◌, ◌<◌, ◌^◌, ℕ, Bool, true, false, List, Option, Some, None, Result, Ok, Err, ap, codes, refl, sym, subst}
 use Rattle.std.specs.Prelude.{unwrap_or}
 use Rattle.std.specs.Str.Parse.{ParsesUnsigned, digits_value, without_leading_plus}
 use Rattle.clap.specs.Words.{ReadsOne, Text}
+use Rattle.broker_log.specs.declared.level.Level.{Level}
+use Rattle.broker_log.specs.declared.level.Level.TheVariants as levels
 use Rattle.arguments.specs.Options.{Spells}
-use Rattle.arguments.specs.CommandLine.{word_of}
+use Rattle.arguments.specs.CommandLine.{flag_word, level_word, word_of}
 use Rattle.arguments.specs.declared.service.ServeUntil.{ServeUntil}
 use Rattle.arguments.specs.declared.service.ServeUntil.TheVariants.{Stdin, Killed}
 
@@ -16,6 +18,18 @@ same_text o a b first second = ap (λ (o : Option Text). unwrap_or o a) (sym fir
 pub neither_word : (until : ServeUntil) (word : Text) → (word ≡ codes "stdin" → ⊥) → (word ≡ codes "killed" → ⊥) → word ≡ word_of until → ⊥
 neither_word Stdin word stdin killed is = stdin is
 neither_word Killed word stdin killed is = killed is
+
+-- a word that is none of the four is none of `--log`
+pub no_level_word : (level : Level) (word : Text) → (word ≡ codes "off" → ⊥) → (word ≡ codes "error" → ⊥) → (word ≡ codes "info" → ⊥) → (word ≡ codes "debug" → ⊥) → word ≡ level_word level → ⊥
+no_level_word levels.Off word off error info debug is = off is
+no_level_word levels.Error word off error info debug is = error is
+no_level_word levels.Info word off error info debug is = info is
+no_level_word levels.Debug word off error info debug is = debug is
+
+-- a word that is neither of the two is no flag's
+pub no_flag_word : (flag : Bool) (word : Text) → (word ≡ codes "true" → ⊥) → (word ≡ codes "false" → ⊥) → word ≡ flag_word flag → ⊥
+no_flag_word true word not_true not_false is = not_true is
+no_flag_word false word not_true not_false is = not_false is
 
 -- what was read stands in the value
 pub value_read : {A E : Type 0} (G : List ℕ → Result A E → Type 0) (value : Option Text) (given : A) → (value ≡ None → Some given ≡ None)

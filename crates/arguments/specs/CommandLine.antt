@@ -1,13 +1,15 @@
 -- The command line: its commands, what words ask for, and why words spell no request (profile).
-use Rattle.std.specs.Prelude.{◌≡◌, ◌⊎◌, codes, true, List, [], Some}
+use Rattle.std.specs.Prelude.{◌≡◌, ◌⊎◌, codes, Bool, true, false, List, [], Some}
 use Rattle.std.specs.Net.Grammar.{IsIpv4Text}
 use Rattle.clap.specs.Words.{App, IsAmong, Row, Text, fault_of, first_of, new_app, one_of, subcommand_of, with_rule, with_subcommand}
 use Rattle.clap.specs.Simple.{on_top}
 use Rattle.clap.specs.declared.error.kind.ErrorKind.{ErrorKind}
 use Rattle.clap.specs.declared.error.kind.ErrorKind.TheVariants.{ValueValidation}
 use Rattle.conn_rules.specs.declared.setup.Setup.{Setup}
+use Rattle.broker_log.specs.declared.level.Level.{Level}
+use Rattle.broker_log.specs.declared.level.Level.TheVariants as levels
 use Rattle.arguments.specs.Groups.{AddsEach, RefusesOne}
-use Rattle.arguments.specs.Options.{address_option, capacity_option, drain_option, group_option, max_inflight_option, metrics_option, port_option, until_option, workers_option, HasNumber, HaveCapacity, HaveMaxInflight, pairs_in}
+use Rattle.arguments.specs.Options.{address_option, capacity_option, drain_option, group_option, keep_parked_option, log_option, max_inflight_option, metrics_option, port_option, until_option, workers_option, HasNumber, HaveCapacity, HaveMaxInflight, pairs_in}
 use Rattle.arguments.specs.declared.command.Request.{Request}
 use Rattle.arguments.specs.declared.command.Request.TheVariants.{Solo, Drive, Serve}
 use Rattle.arguments.specs.declared.groups.Refusal.{Refusal}
@@ -21,10 +23,11 @@ use Rattle.arguments.specs.declared.service.ServeUntil.TheVariants.{Stdin, Kille
 abbrev pub command_named : Text → App
 command_named name = with_rule (with_rule (with_rule (new_app name) capacity_option) max_inflight_option) group_option
 
--- the six options that `serve` has of its own
+-- the eight options that `serve` has of its own
 abbrev pub serve_alone : App
 serve_alone =
-    with_rule (with_rule (with_rule (with_rule (with_rule (with_rule (new_app (codes "serve")) port_option) address_option) workers_option) until_option) drain_option) metrics_option
+    with_rule (with_rule (with_rule (with_rule (with_rule (with_rule (with_rule (with_rule (new_app (codes "serve")) port_option) address_option) workers_option) until_option) drain_option) metrics_option) log_option)
+    keep_parked_option
 
 -- `serve`, with these before them
 abbrev pub serve_command : App
@@ -50,6 +53,18 @@ abbrev pub word_of : ServeUntil → Text
 word_of Stdin = codes "stdin"
 word_of Killed = codes "killed"
 
+-- the word of `--log`
+abbrev pub level_word : Level → Text
+level_word levels.Off = codes "off"
+level_word levels.Error = codes "error"
+level_word levels.Info = codes "info"
+level_word levels.Debug = codes "debug"
+
+-- whether `--keep-parked` is given, as it is read
+abbrev pub flag_word : Bool → Text
+flag_word true = codes "true"
+flag_word false = codes "false"
+
 -- what a broker on TCP begins with, by the values that the options of `serve` have
 pub record IsServiceBy (rows : List Row) (service : ServeOptions) : Type 0 where
   pub text : Text
@@ -60,6 +75,8 @@ pub record IsServiceBy (rows : List Row) (service : ServeOptions) : Type 0 where
   pub until : first_of (codes "until") rows ≡ Some (word_of service.until)
   pub drain : HasNumber (codes "drain") 0 86400 rows service.drain
   pub metrics : HasNumber (codes "metrics") 0 65535 rows service.metrics
+  pub log : first_of (codes "log") rows ≡ Some (level_word service.log)
+  pub keep_parked : first_of (codes "keep-parked") rows ≡ Some (flag_word service.keep_parked)
   pub capacity : HaveCapacity rows service.setup.capacity
   pub max_inflight : HaveMaxInflight rows service.setup.max_inflight
   pub groups : AddsEach [] (pairs_in rows) service.setup.groups

@@ -2,7 +2,7 @@
 use Rattle.std.specs.Prelude.{◌≡◌, ℕ, ◌≤◌, codes, true, List, ◌∷◌, [], Some, pos, unwrap_or}
 use Rattle.std.specs.Str.Parse.{IsNumeral, digits_value, without_leading_plus}
 use Rattle.clap.specs.Words.{Row, Rule, Text, all_of, new_rule, one_of}
-use Rattle.clap.specs.declared.builder.action.ArgAction.TheVariants.{Append}
+use Rattle.clap.specs.declared.builder.action.ArgAction.TheVariants.{Append, SetTrue}
 use Rattle.clap.specs.declared.builder.value_parser.ValueParser.TheVariants.{Signed}
 
 -- ---- the options, in clap's words
@@ -83,6 +83,21 @@ metrics_option = record (new_rule (codes "metrics")) {
   value_names = 1;
   parser = Some (Signed (pos 0) (pos 65535));
   defaults = codes "0" ∷ [];
+}
+
+-- `--log LEVEL`, at most once: a text, and off where it is not given
+abbrev pub log_option : Rule
+log_option = record (new_rule (codes "log")) {
+  long = Some (codes "log");
+  value_names = 1;
+  defaults = codes "off" ∷ [];
+}
+
+-- `--keep-parked`, at most once, without a value
+abbrev pub keep_parked_option : Rule
+keep_parked_option = record (new_rule (codes "keep-parked")) {
+  long = Some (codes "keep-parked");
+  action = Some SetTrue;
 }
 
 -- ---- the values that they have

@@ -1,7 +1,7 @@
 //! The options of the commands.
 ghost use Rattle.std.specs.Prelude.{◌≡◌};
 ghost use Rattle.clap.specs.Words.{rule_of};
-ghost use Rattle.arguments.specs.Options.{address_option, capacity_option, drain_option, group_option, max_inflight_option, metrics_option, port_option, until_option, workers_option};
+ghost use Rattle.arguments.specs.Options.{address_option, capacity_option, drain_option, group_option, keep_parked_option, log_option, max_inflight_option, metrics_option, port_option, until_option, workers_option};
 
 use clap::{Arg, ArgAction, value_parser};
 use std::alloc::Global;
@@ -118,5 +118,30 @@ pub(crate) fn metrics<'a>(alloc: Global) -> Arg<'a>
         .default_value("0")
         .help(
             "The port of the same address at which HTTP gets metrics, as text for Prometheus at /metrics and as a page at /, 0 to 65535; at 0 there are none",
+        )
+}
+
+/// `--log LEVEL`.
+pub(crate) fn log<'a>(alloc: Global) -> Arg<'a>
+    ensures { rule_of result ≡ log_option }
+{
+    Arg::new(alloc, "log")
+        .long("log")
+        .value_name("LEVEL")
+        .default_value("off")
+        .help(
+            "What is said on standard error while it serves: off, error, info (connections, shares, full queues and the end) or debug",
+        )
+}
+
+/// `--keep-parked`.
+pub(crate) fn keep_parked<'a>(alloc: Global) -> Arg<'a>
+    ensures { rule_of result ≡ keep_parked_option }
+{
+    Arg::new(alloc, "keep-parked")
+        .long("keep-parked")
+        .action(ArgAction::SetTrue)
+        .help(
+            "Where 256 sessions are kept, none that is parked goes for a client that has none: that one is refused, also where a session holds nothing and has no place in a group",
         )
 }

@@ -1,6 +1,7 @@
 //! What a broker on TCP begins with.
 ghost use Rattle.std.specs.Prelude.{◌≤◌};
 
+use broker_log::Level;
 use conn_rules::Setup;
 use std::net::Ipv4Addr;
 
@@ -28,6 +29,10 @@ pub struct ServeOptions {
     pub drain: u32,
     /// The port of its metrics; at 0 there are none.
     pub metrics: u16,
+    /// What is said on the error output while it serves.
+    pub log: Level,
+    /// Where as many sessions are kept as there may be, none that is parked goes for a client that has none.
+    pub keep_parked: bool,
     /// What its groups begin with.
     pub setup: Setup,
     ghost few: { (1 ≤ workers) × (workers ≤ 64) },

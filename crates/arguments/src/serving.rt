@@ -3,13 +3,14 @@ ghost use Rattle.std.specs.Prelude.{◌≡◌, ◌⊎◌, ℕ, codes, IfOk, IfEr
 ghost use Rattle.clap.specs.Words.{first_of, found_of, kind_of, rows_of};
 ghost use Rattle.clap.specs.declared.error.kind.ErrorKind.TheVariants as kinds;
 ghost use Rattle.arguments.specs.Options.{HasNumber, HaveCapacity, HaveMaxInflight};
-ghost use Rattle.arguments.specs.CommandLine.{IsServiceBy, word_of};
+ghost use Rattle.arguments.specs.CommandLine.{IsServiceBy, flag_word, level_word, word_of};
 ghost use Rattle.arguments.specs.declared.service.ServeOptions.{ServeOptions as AnyService};
 
 use crate::command::{refused_value, serve_command};
 use crate::groups::groups_of;
 use crate::service::{ServeOptions, ServeUntil};
 use crate::setup::{capacity_of, limit_of};
+use broker_log::Level;
 use clap::{ArgMatches, Error};
 use conn_rules::{MaxInflight, QueueCapacity, Setup};
 use std::alloc::{AllocError, Global};
@@ -45,6 +46,12 @@ pub(crate) fn service_of(alloc: Global, options: &ArgMatches) -> Result<ServeOpt
     let Some(until) = until_of(options) else {
         return Err(wrong(alloc, "--until is stdin or killed")?);
     };
+    let Some(log) = level_of(options) else {
+        return Err(wrong(alloc, "--log is off, error, info or debug")?);
+    };
+    let Some(keep_parked) = is_keep_parked(options) else {
+        return Err(wrong(alloc, "--keep-parked has no value")?);
+    };
     match groups_of(alloc, options.get_strs("group").unwrap_or(&[]))? {
         Ok(groups) => Ok(ServeOptions {
             address,
@@ -53,6 +60,8 @@ pub(crate) fn service_of(alloc: Global, options: &ArgMatches) -> Result<ServeOpt
             until,
             drain: numbers.drain,
             metrics: numbers.metrics,
+            log,
+            keep_parked,
             setup: Setup {
                 capacity: numbers.capacity,
                 max_inflight: numbers.max_inflight,
@@ -79,6 +88,34 @@ fn until_of(options: &ArgMatches) -> Option<ServeUntil>
     match options.get_str("until")? {
         "stdin" => Some(ServeUntil::Stdin),
         "killed" => Some(ServeUntil::Killed),
+        _ => None,
+    }
+}
+
+/// Whether parked sessions are kept.
+fn is_keep_parked(options: &ArgMatches) -> Option<bool>
+    ensures { MatchOption result
+        ((service : AnyService) → ¬ IsServiceBy (rows_of (found_of options.now)) service)
+        (λ keep_parked. first_of (codes "keep-parked") (rows_of (found_of options.now)) ≡ Some (flag_word keep_parked)) }
+{
+    match options.get_str("keep-parked")? {
+        "true" => Some(true),
+        "false" => Some(false),
+        _ => None,
+    }
+}
+
+/// How much its log has.
+fn level_of(options: &ArgMatches) -> Option<Level>
+    ensures { MatchOption result
+        ((service : AnyService) → ¬ IsServiceBy (rows_of (found_of options.now)) service)
+        (λ log. first_of (codes "log") (rows_of (found_of options.now)) ≡ Some (level_word log)) }
+{
+    match options.get_str("log")? {
+        "off" => Some(Level::Off),
+        "error" => Some(Level::Error),
+        "info" => Some(Level::Info),
+        "debug" => Some(Level::Debug),
         _ => None,
     }
 }

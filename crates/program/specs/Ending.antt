@@ -7,6 +7,9 @@ use Rattle.arguments.specs.declared.command.Request.TheVariants.{Solo, Drive, Se
 use Rattle.arguments.specs.declared.service.ServeOptions.{ServeOptions}
 use Rattle.arguments.specs.declared.service.ServeUntil.{ServeUntil}
 use Rattle.arguments.specs.declared.service.ServeUntil.TheVariants.{Stdin, Killed}
+use Rattle.broker_log.specs.declared.level.Level.{Level}
+use Rattle.broker_log.specs.declared.level.Level.TheVariants as levels
+use Rattle.broker_log.specs.Lines.{BeginsToLog}
 use Rattle.text_io.specs.declared.error.RunError.{RunError}
 use Rattle.text_io.specs.declared.error.RunError.TheVariants.{ReadFailed, TooManyReads, WriteFailed, Network, Memory, Unfinished, Line}
 use Rattle.text_io.specs.Status.{status_of, error_line}
@@ -63,9 +66,8 @@ WroteDrive setup input = Wrote (IsDriveOutput setup input) (λ line. script_of i
 
 -- A broker was served at the port, with groups of the capacity, with the workers, the limit and the shares that were asked for: what it
 -- wrote by how it ended is in the output.
-abbrev pub IsServedFor : ServeOptions → Result (Unit {0}) RunError → Option (List ℕ) → Option (List ℕ) → Type 0
-IsServedFor service ended old new =
-    IsServedAt service.port service.setup.capacity service.workers service.setup.max_inflight service.setup.groups ended old new
+pub record IsServedFor (service : ServeOptions) (ended : Result (Unit {0}) RunError) (old new : Option (List ℕ)) : Type 0 where
+  pub served : IsServedAt service.port service.setup.capacity service.workers service.setup.max_inflight service.setup.groups ended old new
 
 -- What a broker read of the input, of which this is left. Until standard input ends: it ended with no error only where that had ended. Until it
 -- is killed: nothing, and it did not end but with an error.
@@ -84,11 +86,31 @@ Did (Solo setup) ended input left old new = IfSome input (λ given. WroteSolo se
 Did (Drive setup) ended input left old new = IfSome input (λ given. WroteDrive setup given ended old new)
 Did (Serve service) ended input left old new = Served service ended input left old new
 
--- A command came to its end, or to an error, which is told.
+-- What a broker's log wrote on the error output: its lines, of which the last may be a beginning, where writing it failed. A log that is off has no line but the one that says that
+-- standard input was at its end as the broker began to read it, and none of a broker that is to serve until it is killed.
+abbrev pub IsLoggedUnread : Level → Option (List ℕ) → Option (List ℕ) → Type 0
+IsLoggedUnread levels.Off old new = new ≡ old
+IsLoggedUnread levels.Error old new = BeginsToLog levels.Error old new
+IsLoggedUnread levels.Info old new = BeginsToLog levels.Info old new
+IsLoggedUnread levels.Debug old new = BeginsToLog levels.Debug old new
+
+abbrev pub IsLoggedFor : ServeUntil → Level → Option (List ℕ) → Option (List ℕ) → Type 0
+IsLoggedFor Stdin level old new = BeginsToLog level old new
+IsLoggedFor Killed level old new = IsLoggedUnread level old new
+
+-- what a command wrote on the error output before its end was told: a broker what its log has, and the others nothing
+abbrev pub HasSaid : Request → Option (List ℕ) → Option (List ℕ) → Type 0
+HasSaid (Solo setup) old new = new ≡ old
+HasSaid (Drive setup) old new = new ≡ old
+HasSaid (Serve service) old new = IsLoggedFor service.until service.log old new
+
+-- A command came to its end, or to an error, which is told after what it said.
 pub record RunEnds (request : Request) (old new : Streams) (exit : Exit) : Type 0 where
   pub ended : Result (Unit {0}) RunError
   pub did : Did request ended old.input new.input old.output new.output
-  pub told : Tells ended exit.told old.errors new.errors
+  pub said : Option (List ℕ)
+  pub has_said : HasSaid request old.errors said
+  pub told : Tells ended exit.told said new.errors
   pub ends_with : exit.status ≡ status_at ended
 
 -- a text is shown: all of it, or a beginning

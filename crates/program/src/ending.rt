@@ -1,11 +1,10 @@
 //! The words, what they ask for, and the status.
-ghost use Rattle.std.specs.Prelude.{◌≡◌, map, string_bytes, IfOk};
-ghost use Rattle.std.specs.Io.KnownBytes.{IsAtEnd};
-ghost use Rattle.program.specs.Ending.{Did, Ends, EndsAsAsked, HasRead, IsServedFor, Tells, status_at};
+ghost use Rattle.std.specs.Prelude.{◌≡◌, map, string_bytes};
+ghost use Rattle.program.specs.Ending.{Did, Ends, EndsAsAsked, HasSaid, Tells, status_at};
 
 use crate::asking::{Asked, asked_by};
-use crate::endless::Endless;
-use arguments::{Request, ServeOptions, ServeUntil};
+use crate::serving::serve;
+use arguments::Request;
 use drive::drive_lines;
 use solo_output::solo;
 use std::alloc::Global;
@@ -15,7 +14,6 @@ use std::net::Net;
 use std::rt::Clock;
 use std::sync::Wait;
 use std::thread::Threads;
-use tcp_server::{ListenAt, ServeSettings, serve_at};
 use text_io::{RunError, tell, write_all};
 
 /// The status that the program ends with where its words are wrong.
@@ -42,11 +40,11 @@ pub struct Exit {
 /// | 4 | memory was refused, or what became of the messages of a group is not known |
 /// | 5 | a line of the input is none that the command takes; nothing was run |
 ///
-/// At 3, 4 and 5 the error output has a line that says so: `device`, `memory`, `unfinished` or `input line N`. Where it fails, or memory for that line is
+/// What a broker's log says (`--log`) stands on the error output first. At 3, 4 and 5 it then has a line that says so: `device`, `memory`, `unfinished` or `input line N`. Where it fails, or memory for that line is
 /// refused, it has a beginning of that, and [`Exit::told`] says so.
 ///
 /// The words are an error where one of them is no UTF-8 text, which ends as wrong words do, or where memory was refused for them.
-pub fn run<H: Threads + Wait + Net + Clock + Sync, R: Read + Send, W: Write, E: Write>(
+pub fn run<H: Threads + Wait + Net + Clock + Sync, R: Read + Send, W: Write, E: Write + Send>(
     rt: &H,
     alloc: Global,
     words: io::Result<Vec<String>>,
@@ -63,7 +61,7 @@ pub fn run<H: Threads + Wait + Net + Clock + Sync, R: Read + Send, W: Write, E: 
 }
 
 /// Does what was asked for, and says how the program ends, as [`run`].
-pub fn perform<H: Threads + Wait + Net + Clock + Sync, R: Read + Send, W: Write, E: Write>(
+pub fn perform<H: Threads + Wait + Net + Clock + Sync, R: Read + Send, W: Write, E: Write + Send>(
     rt: &H,
     alloc: Global,
     asked: Result<Asked, RunError>,
@@ -77,7 +75,7 @@ pub fn perform<H: Threads + Wait + Net + Clock + Sync, R: Read + Send, W: Write,
 {
     match asked {
         Ok(Asked::Run(request)) => {
-            let ended = command(rt, alloc, request, reader, output);
+            let ended = command(rt, alloc, request, reader, output, errors);
             conclude(alloc, ended, errors)
         }
         Ok(Asked::Show(text)) => {
@@ -92,72 +90,23 @@ pub fn perform<H: Threads + Wait + Net + Clock + Sync, R: Read + Send, W: Write,
     }
 }
 
-/// Runs a command.
-fn command<H: Threads + Wait + Net + Clock + Sync, R: Read + Send, W: Write>(
+/// Runs a command. What a broker says while it serves stands on the error output then.
+fn command<H: Threads + Wait + Net + Clock + Sync, R: Read + Send, W: Write, E: Write + Send>(
     rt: &H,
     alloc: Global,
     request: Request,
     reader: &mut R,
     output: &mut W,
+    errors: &mut E,
 ) -> Result<(), RunError>
-    ensures { Did request result (R.remaining reader.old) (R.remaining reader.new) (W.contents output.old) (W.contents output.new) }
+    ensures did { Did request result (R.remaining reader.old) (R.remaining reader.new) (W.contents output.old) (W.contents output.new) }
+    ensures said { HasSaid request (E.contents errors.old) (E.contents errors.new) }
 {
     match request {
         Request::Solo(setup) => solo(alloc, setup, reader, output),
         Request::Drive(setup) => drive_lines(alloc, setup, reader, output),
-        Request::Serve(service) => serve(rt, alloc, service, reader, output),
+        Request::Serve(service) => serve(rt, alloc, &service, reader, output, errors),
     }
-}
-
-/// Serves as was asked for.
-fn serve<H: Threads + Wait + Net + Clock + Sync, R: Read + Send, W: Write>(
-    rt: &H,
-    alloc: Global,
-    service: ServeOptions,
-    reader: &mut R,
-    output: &mut W,
-) -> Result<(), RunError>
-    ensures written { IsServedFor service result (W.contents output.old) (W.contents output.new) }
-    ensures read { HasRead service.until result (R.remaining reader.old) (R.remaining reader.new) }
-{
-    match service.until {
-        ServeUntil::Stdin => serve_reading(rt, alloc, service, reader, output),
-        ServeUntil::Killed => serve_reading(rt, alloc, service, &mut Endless { rt }, output),
-    }
-}
-
-/// Serves as was asked for, until this reader has ended.
-fn serve_reading<H: Threads + Wait + Net + Clock + Sync, R: Read + Send, W: Write>(
-    rt: &H,
-    alloc: Global,
-    service: ServeOptions,
-    reader: &mut R,
-    output: &mut W,
-) -> Result<(), RunError>
-    ensures written { IsServedFor service result (W.contents output.old) (W.contents output.new) }
-    ensures read { IfOk result (λ _. IsAtEnd (R.remaining reader.new)) }
-{
-    let ServeOptions {
-        address,
-        port,
-        workers,
-        until: _,
-        drain,
-        metrics,
-        setup,
-    } = service;
-    let settings = ServeSettings {
-        capacity: setup.capacity.get() as usize,
-        workers,
-        max_inflight: setup.max_inflight,
-        drain,
-    };
-    let at = ListenAt {
-        address,
-        port,
-        metrics,
-    };
-    serve_at(rt, alloc, settings, setup.groups, at, reader, output)
 }
 
 /// How the program ends where what it did came to an end so: an error is told.

@@ -8,6 +8,7 @@
 mod asking;
 mod ending;
 mod endless;
+mod serving;
 
 pub use asking::{Asked, asked_by};
 pub use ending::{Exit, perform, run};

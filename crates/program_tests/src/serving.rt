@@ -19,51 +19,71 @@ fn what_words_of_serve_ask_for(rt: HostRuntime) -> Result<(), Fail> {
     let rows = [
         (
             "share_broker serve --port 1883",
-            "serve 127.0.0.1:1883 8 Stdin 0 0 1024 256",
+            "serve 127.0.0.1:1883 8 Stdin 0 0 Off 1024 256",
         ),
         (
             "share_broker serve --port 0 --workers 1",
-            "serve 127.0.0.1:0 1 Stdin 0 0 1024 256",
+            "serve 127.0.0.1:0 1 Stdin 0 0 Off 1024 256",
         ),
         (
             "share_broker serve --port 65535 --address 0.0.0.0 --workers 64 --capacity 65536 --group g:job --group h:#",
-            "serve 0.0.0.0:65535 64 Stdin 0 0 65536 256 $share/g/job $share/h/#",
+            "serve 0.0.0.0:65535 64 Stdin 0 0 Off 65536 256 $share/g/job $share/h/#",
         ),
         (
             "share_broker serve --address=192.168.1.255 --port=7 --capacity=1",
-            "serve 192.168.1.255:7 8 Stdin 0 0 1 256",
+            "serve 192.168.1.255:7 8 Stdin 0 0 Off 1 256",
         ),
         (
             "share_broker serve --port 1 --max-inflight 256",
-            "serve 127.0.0.1:1 8 Stdin 0 0 1024 256",
+            "serve 127.0.0.1:1 8 Stdin 0 0 Off 1024 256",
         ),
         (
             "share_broker serve --max-inflight=2 --port 1 --group g:job",
-            "serve 127.0.0.1:1 8 Stdin 0 0 1024 2 $share/g/job",
+            "serve 127.0.0.1:1 8 Stdin 0 0 Off 1024 2 $share/g/job",
         ),
         (
             "share_broker serve --port 1 --until stdin",
-            "serve 127.0.0.1:1 8 Stdin 0 0 1024 256",
+            "serve 127.0.0.1:1 8 Stdin 0 0 Off 1024 256",
         ),
         (
             "share_broker serve --until=killed --port 1 --workers 2 --group g:job",
-            "serve 127.0.0.1:1 2 Killed 0 0 1024 256 $share/g/job",
+            "serve 127.0.0.1:1 2 Killed 0 0 Off 1024 256 $share/g/job",
         ),
         (
             "share_broker serve --port 1 --drain 86400",
-            "serve 127.0.0.1:1 8 Stdin 86400 0 1024 256",
+            "serve 127.0.0.1:1 8 Stdin 86400 0 Off 1024 256",
         ),
         (
             "share_broker serve --drain=60 --port 1 --until killed --group g:job",
-            "serve 127.0.0.1:1 8 Killed 60 0 1024 256 $share/g/job",
+            "serve 127.0.0.1:1 8 Killed 60 0 Off 1024 256 $share/g/job",
         ),
         (
             "share_broker serve --port 1 --metrics 65535",
-            "serve 127.0.0.1:1 8 Stdin 0 65535 1024 256",
+            "serve 127.0.0.1:1 8 Stdin 0 65535 Off 1024 256",
         ),
         (
             "share_broker serve --metrics=9100 --port 1 --drain 60 --group g:job",
-            "serve 127.0.0.1:1 8 Stdin 60 9100 1024 256 $share/g/job",
+            "serve 127.0.0.1:1 8 Stdin 60 9100 Off 1024 256 $share/g/job",
+        ),
+        (
+            "share_broker serve --port 1 --log off",
+            "serve 127.0.0.1:1 8 Stdin 0 0 Off 1024 256",
+        ),
+        (
+            "share_broker serve --port 1 --log error",
+            "serve 127.0.0.1:1 8 Stdin 0 0 Error 1024 256",
+        ),
+        (
+            "share_broker serve --log=info --port 1 --drain 60 --group g:job",
+            "serve 127.0.0.1:1 8 Stdin 60 0 Info 1024 256 $share/g/job",
+        ),
+        (
+            "share_broker serve --port 1 --log debug",
+            "serve 127.0.0.1:1 8 Stdin 0 0 Debug 1024 256",
+        ),
+        (
+            "share_broker serve --keep-parked --port 1 --group g:job",
+            "serve 127.0.0.1:1 8 Stdin 0 0 Off kept 1024 256 $share/g/job",
         ),
         ("share_broker serve --port 1 --address localhost", "2"),
         ("share_broker serve --port 1 --address 1.2.3", "2"),
@@ -91,7 +111,7 @@ fn what_words_of_serve_ask_for(rt: HostRuntime) -> Result<(), Fail> {
 }
 
 #[test]
-fn faults_of_numbers(rt: HostRuntime) -> Result<(), Fail> {
+fn faults_of_options(rt: HostRuntime) -> Result<(), Fail> {
     let rows = [
         ("share_broker serve", "2"),
         ("share_broker serve --port", "2"),
@@ -117,6 +137,14 @@ fn faults_of_numbers(rt: HostRuntime) -> Result<(), Fail> {
         ("share_broker serve --port 1 --metrics localhost:1", "2"),
         ("share_broker serve --port 1 --metrics 1 --metrics 1", "2"),
         ("share_broker drive --metrics 1", "2"),
+        ("share_broker serve --port 1 --log", "2"),
+        ("share_broker serve --port 1 --log Info", "2"),
+        ("share_broker serve --port 1 --log warn", "2"),
+        ("share_broker serve --port 1 --log info --log info", "2"),
+        ("share_broker drive --log info", "2"),
+        ("share_broker serve --port 1 --keep-parked yes", "2"),
+        ("share_broker serve --port 1 --keep-parked=true", "2"),
+        ("share_broker drive --keep-parked", "2"),
     ];
     assert_asked(&rt, rt.alloc(), &rows)
 }

@@ -18,6 +18,10 @@ const CONNECTED: &[u8] = b"100F00044D5154540502003C0000027731\n";
 /// The answer to it: a CONNACK with Maximum QoS 1, no retained messages, Maximum Packet Size 65,536 and no subscription identifiers.
 const CONNACK: &str = "200c000009240125002700010000\n";
 
+/// What a broker says whose input has ended before it reads it.
+const AT_ITS_END: &str =
+    "error: standard input is at its end already, so the broker closes; --until killed serves until it is killed\n";
+
 /// How the program ended.
 #[derive(Drop)]
 struct Ended {
@@ -127,6 +131,8 @@ fn texts_are_shown(rt: HostRuntime) -> Result<(), Fail> {
         ("share_broker serve --help", "--drain <SECONDS>"),
         ("share_broker help serve", "0 to 86400 [default: 0]"),
         ("share_broker serve --help", "--metrics <PORT>"),
+        ("share_broker serve --help", "--log <LEVEL>"),
+        ("share_broker help serve", "[default: off]"),
         ("share_broker drive --help", "1 to 65536 [default: 1024]"),
         ("share_broker solo --help", "1 to 256 [default: 256]"),
     ];
@@ -166,6 +172,10 @@ fn wrong_words(rt: HostRuntime) -> Result<(), Fail> {
             "--until is stdin or killed",
         ),
         (
+            "share_broker serve --port 0 --log loud",
+            "--log is off, error, info or debug",
+        ),
+        (
             "share_broker serve --port 0 --drain 86401",
             "invalid value '86401'",
         ),
@@ -201,7 +211,45 @@ fn serving_ends(rt: HostRuntime) -> Result<(), Fail> {
         assert_same_at(&rt, &ended.status, &0, line);
         assert_same_at(&rt, &ended.output.starts_with(b"listening "), &true, line);
         assert_same_at(&rt, &has(&ended.output, report), &true, line);
-        assert_same_at(&rt, &ended.errors.len(), &0, line);
+        assert_items(&rt, ended.errors.as_slice(), AT_ITS_END.as_bytes());
+    }
+    Ok(())
+}
+
+/// What a log has of a broker whose input has ended: all that it does, in order, and nothing else.
+#[test]
+fn serving_with_a_log(rt: HostRuntime) -> Result<(), Fail> {
+    let line =
+        "share_broker serve --port 0 --workers 1 --group g:job --group h:# --drain 60 --log info";
+    let said = "\
+info: the share \"$share/g/job\" is bound to slot 0
+info: the share \"$share/h/#\" is bound to slot 1
+error: standard input is at its end already, so the broker closes; --until killed serves until it is killed
+info: standard input has ended
+info: the broker drains for 60 seconds at most
+info: drained: each job that was accepted is settled
+info: the broker closes
+";
+    let ended = ran(&rt, rt.alloc(), line, &mut &b""[..])?;
+    assert_same(&rt, &ended.status, &0);
+    assert_items(&rt, ended.errors.as_slice(), said.as_bytes());
+    Ok(())
+}
+
+/// A broker whose input fails says so where it is to say what went wrong, before the line of the error.
+#[test]
+fn serving_whose_input_fails(rt: HostRuntime) -> Result<(), Fail> {
+    let rows = [
+        ("share_broker serve --port 0 --workers 1", "device\n"),
+        (
+            "share_broker serve --port 0 --workers 1 --log error",
+            "error: standard input failed\ndevice\n",
+        ),
+    ];
+    for (line, said) in rows.iter() {
+        let ended = ran(&rt, rt.alloc(), line, &mut Broken)?;
+        assert_same_at(&rt, &ended.status, &3, line);
+        assert_items(&rt, ended.errors.as_slice(), said.as_bytes());
     }
     Ok(())
 }

@@ -14,22 +14,24 @@ pub(crate) fn words_of(alloc: Global, line: &str) -> Result<Vec<String>, AllocEr
     Ok(words)
 }
 
-/// What a line asks for: the command, and of `serve` the address, the port, the workers, until when, the time to drain and the port of metrics; the capacity, the limit of unacknowledged messages and the
-/// shares; or the status of its fault.
+/// What a line asks for: the command, and of `serve` the address, the port, the workers, until when, the time to drain, the port of metrics, the level of its log
+/// and whether parked sessions are kept; the capacity, the limit of unacknowledged messages and the shares; or the status of its fault.
 pub(crate) fn asked(alloc: Global, line: &str) -> Result<String, AllocError> {
     let words = words_of(alloc, line)?;
     match arguments(alloc, &words) {
         Ok(Request::Solo(setup)) => told(alloc, "solo", &setup),
         Ok(Request::Drive(setup)) => told(alloc, "drive", &setup),
         Ok(Request::Serve(service)) => {
+            let kept = if service.keep_parked { " kept" } else { "" };
             let command = format!(in alloc;
-                "serve {}:{} {} {:?} {} {}",
+                "serve {}:{} {} {:?} {} {} {:?}{kept}",
                 service.address,
                 service.port,
                 service.workers,
                 service.until,
                 service.drain,
-                service.metrics
+                service.metrics,
+                service.log
             )?;
             told(alloc, command.as_str(), &service.setup)
         }

@@ -7,9 +7,11 @@ ghost use Rattle.transport.specs.Streams.{GivesWithin, TakesWithin, after_read, 
 
 use crate::wire::{IoOutcome, Wire};
 use mio::event::Source;
+use mio::net::TcpStream;
 use mio::{Interest, Registry, Token};
 use std::io;
 use std::marker::Model;
+use std::net::SocketAddr;
 use transport::{Counts, Got, Put, Transport};
 
 /// A transport over a stream that never waits. Each read and each write is one call of the stream; what that does not take at once is
@@ -48,6 +50,13 @@ impl<W> Socket<W> {
         ensures { result ≡ self.wire }
     {
         self.wire
+    }
+}
+
+impl Socket<TcpStream> {
+    /// The address of its peer, where the system tells it: one call of the system.
+    pub fn peer(&self) -> Option<SocketAddr> {
+        self.wire.peer_addr().ok()
     }
 }
 

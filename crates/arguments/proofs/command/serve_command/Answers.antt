@@ -14,7 +14,9 @@ returns c =
     let until = c.in_ok-arg-4.ensures.shape (simple_own c.until.result (ap (λ (r : Rule). r.is_simple) c.until.ensures)) ∙ ap₂ with_rule workers c.until.ensures in
     let drain = c.in_ok-arg-5.ensures.shape (simple_own c.drain.result (ap (λ (r : Rule). r.is_simple) c.drain.ensures)) ∙ ap₂ with_rule until c.drain.ensures in
     let metrics = c.in_ok-arg-6.ensures.shape (simple_own c.metrics.result (ap (λ (r : Rule). r.is_simple) c.metrics.ensures)) ∙ ap₂ with_rule drain c.metrics.ensures in
-    let capacity = c.in_ok-arg-7.ensures.shape (simple_own c.capacity.result (ap (λ (r : Rule). r.is_simple) c.capacity.ensures)) ∙ ap₂ with_rule metrics c.capacity.ensures in
-    let max_inflight = c.in_ok-arg-8.ensures.shape (simple_own c.max_inflight.result (ap (λ (r : Rule). r.is_simple) c.max_inflight.ensures)) ∙ ap₂ with_rule capacity c.max_inflight.ensures in
+    let log = c.in_ok-arg-7.ensures.shape (simple_own c.log.result (ap (λ (r : Rule). r.is_simple) c.log.ensures)) ∙ ap₂ with_rule metrics c.log.ensures in
+    let keep_parked = c.in_ok-arg-8.ensures.shape (simple_own c.keep_parked.result (ap (λ (r : Rule). r.is_simple) c.keep_parked.ensures)) ∙ ap₂ with_rule log c.keep_parked.ensures in
+    let capacity = c.in_ok-arg-9.ensures.shape (simple_own c.capacity.result (ap (λ (r : Rule). r.is_simple) c.capacity.ensures)) ∙ ap₂ with_rule keep_parked c.capacity.ensures in
+    let max_inflight = c.in_ok-arg-10.ensures.shape (simple_own c.max_inflight.result (ap (λ (r : Rule). r.is_simple) c.max_inflight.ensures)) ∙ ap₂ with_rule capacity c.max_inflight.ensures in
     let own = simple_own c.group.result (ap (λ (r : Rule). r.is_simple) c.group.ensures) in
-    IfOk-weaker c.arg-9.result _ _ (λ command h. h.shape own ∙ ap₂ with_rule max_inflight c.group.ensures) c.arg-9.ensures
+    IfOk-weaker c.arg-11.result _ _ (λ command h. h.shape own ∙ ap₂ with_rule max_inflight c.group.ensures) c.arg-11.ensures

@@ -8,8 +8,8 @@ use Rattle.program.specs.Ending.{Did}
 use Rattle.program.proofs.Commands.{wrote}
 use Rattle.program.proofs.ending.command.Goals as goal
 
-pub returns-in-Solo : goal.returns-in-Solo
-returns-in-Solo g c =
+pub returns-in-Solo-clause-did : goal.returns-in-Solo-clause-did
+returns-in-Solo-clause-did g c =
     let input = g.R.Read.remaining c.args.reader.now in
     let left = g.R.Read.remaining c.solo.new.reader in
     let old = g.W.Write.contents c.args.output.now in
@@ -17,8 +17,8 @@ returns-in-Solo g c =
     subst (λ request. Did request c.solo.result input left old new) (sym c.in-Solo.is)
     (wrote (λ given. IsOutputFor c.in-Solo.setup given) (λ given line. stream_of given ≡ Err line) input c.solo.result old new c.solo.ensures.ended c.solo.ensures.bad_line c.solo.ensures.begun c.solo.ensures.kept)
 
-pub returns-in-Drive : goal.returns-in-Drive
-returns-in-Drive g c =
+pub returns-in-Drive-clause-did : goal.returns-in-Drive-clause-did
+returns-in-Drive-clause-did g c =
     let input = g.R.Read.remaining c.args.reader.now in
     let left = g.R.Read.remaining c.drive_lines.new.reader in
     let old = g.W.Write.contents c.args.output.now in
@@ -26,8 +26,8 @@ returns-in-Drive g c =
     subst (λ request. Did request c.drive_lines.result input left old new) (sym c.in-Drive.is)
     (wrote (λ given. IsDriveOutput c.in-Drive.setup given) (λ given line. script_of given ≡ Err line) input c.drive_lines.result old new c.drive_lines.ensures.ended c.drive_lines.ensures.bad_line c.drive_lines.ensures.begun c.drive_lines.ensures.kept)
 
-pub returns-in-Serve : goal.returns-in-Serve
-returns-in-Serve g c =
+pub returns-in-Serve-clause-did : goal.returns-in-Serve-clause-did
+returns-in-Serve-clause-did g c =
     let input = g.R.Read.remaining c.args.reader.now in
     let left = g.R.Read.remaining c.serve.new.reader in
     let old = g.W.Write.contents c.args.output.now in

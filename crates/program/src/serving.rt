@@ -1,0 +1,194 @@
+//! A broker on TCP, and its log.
+ghost use Rattle.std.specs.Prelude.{◌≡◌, IfOk, IsErr};
+ghost use Rattle.std.specs.Io.KnownBytes.{IsAtEnd};
+ghost use Rattle.broker_log.specs.Lines.{BeginsToLog};
+ghost use Rattle.program.specs.Ending.{HasRead, IsLoggedFor, IsLoggedUnread, IsServedFor};
+
+use crate::endless::Endless;
+use arguments::{ServeOptions, ServeUntil};
+use broker_log::{Level, Log};
+use session_desk::Newcomers;
+use std::alloc::Global;
+use std::io::{Read, Write};
+use std::net::Net;
+use std::rt::Clock;
+use std::sync::Wait;
+use std::thread;
+use std::thread::Threads;
+use tcp_server::{ListenAt, ServeSettings, serve_at};
+use text_io::RunError;
+
+/// Serves as was asked for, and writes what the log has of it.
+pub(crate) fn serve<
+    H: Threads + Wait + Net + Clock + Sync,
+    R: Read + Send,
+    W: Write,
+    E: Write + Send,
+>(
+    rt: &H,
+    alloc: Global,
+    service: &ServeOptions,
+    reader: &mut R,
+    output: &mut W,
+    errors: &mut E,
+) -> Result<(), RunError>
+    ensures written { IsServedFor service.now result (W.contents output.old) (W.contents output.new) }
+    ensures read { HasRead service.now.until result (R.remaining reader.old) (R.remaining reader.new) }
+    ensures logged { IsLoggedFor service.now.until service.now.log (E.contents errors.old) (E.contents errors.new) }
+{
+    match Log::open(alloc, service.log) {
+        Ok(log) => serve_until(rt, alloc, service, &log, reader, output, errors),
+        Err(_) => Err(RunError::Memory),
+    }
+}
+
+/// Serves until its input ends, or until it is killed.
+fn serve_until<H: Threads + Wait + Net + Clock + Sync, R: Read + Send, W: Write, E: Write + Send>(
+    rt: &H,
+    alloc: Global,
+    service: &ServeOptions,
+    log: &Log,
+    reader: &mut R,
+    output: &mut W,
+    errors: &mut E,
+) -> Result<(), RunError>
+    requires { log.now ≡ service.now.log }
+    ensures written { IsServedFor service.now result (W.contents output.old) (W.contents output.new) }
+    ensures read { HasRead service.now.until result (R.remaining reader.old) (R.remaining reader.new) }
+    ensures logged { IsLoggedFor service.now.until service.now.log (E.contents errors.old) (E.contents errors.new) }
+{
+    match service.until {
+        ServeUntil::Stdin => serve_logged(rt, alloc, service, log, reader, output, errors),
+        ServeUntil::Killed => serve_unread(rt, alloc, service, log, output, errors),
+    }
+}
+
+/// Serves until it is killed, and reads nothing.
+fn serve_unread<H: Threads + Wait + Net + Clock + Sync, W: Write, E: Write + Send>(
+    rt: &H,
+    alloc: Global,
+    service: &ServeOptions,
+    log: &Log,
+    output: &mut W,
+    errors: &mut E,
+) -> Result<(), RunError>
+    ensures written { IsServedFor service.now result (W.contents output.old) (W.contents output.new) }
+    ensures failed { IsErr result }
+    ensures logged { IsLoggedUnread log.now (E.contents errors.old) (E.contents errors.new) }
+{
+    let mut endless = Endless { rt };
+    if log.level() == Level::Off {
+        serve_reading(rt, alloc, service, log, &mut endless, output)
+    } else {
+        serve_logged(rt, alloc, service, log, &mut endless, output, errors)
+    }
+}
+
+/// Serves until this reader has ended, and writes what is said to the log: in a thread of its own meanwhile, or, where the log is off, once all is done.
+fn serve_logged<H: Threads + Wait + Net + Clock + Sync, R: Read + Send, W: Write, E: Write + Send>(
+    rt: &H,
+    alloc: Global,
+    service: &ServeOptions,
+    log: &Log,
+    reader: &mut R,
+    output: &mut W,
+    errors: &mut E,
+) -> Result<(), RunError>
+    ensures written { IsServedFor service.now result (W.contents output.old) (W.contents output.new) }
+    ensures read { IfOk result (λ _. IsAtEnd (R.remaining reader.new)) }
+    ensures logged { BeginsToLog log.now (E.contents errors.old) (E.contents errors.new) }
+{
+    if log.level() == Level::Off {
+        let ended = serve_reading(rt, alloc, service, log, reader, output);
+        log.close();
+        log.run(rt, alloc, errors);
+        ended
+    } else {
+        serve_beside(rt, alloc, service, log, reader, output, errors)
+    }
+}
+
+/// Serves in this thread, and writes what is said to the log in another one. Where the system makes none, that is written once all is done.
+fn serve_beside<H: Threads + Wait + Net + Clock + Sync, R: Read + Send, W: Write, E: Write + Send>(
+    rt: &H,
+    alloc: Global,
+    service: &ServeOptions,
+    log: &Log,
+    reader: &mut R,
+    output: &mut W,
+    errors: &mut E,
+) -> Result<(), RunError>
+    ensures written { IsServedFor service.now result (W.contents output.old) (W.contents output.new) }
+    ensures read { IfOk result (λ _. IsAtEnd (R.remaining reader.new)) }
+    ensures logged { BeginsToLog log.now (E.contents errors.old) (E.contents errors.new) }
+{
+    let mut logging = || log.run(rt, alloc, errors);
+    let mut serving = ||
+        ensures written { IsServedFor service.entry.now result (W.contents output.entry.now) (W.contents output.exit.now) }
+        ensures read { IfOk result (λ _. IsAtEnd (R.remaining reader.exit.now)) }
+    { serve_closing(rt, alloc, service, log, reader, output) };
+    let (_written, ended) = thread::join_mut(rt, &mut logging, &mut serving);
+    ended
+}
+
+/// Serves until this reader has ended, and closes the log.
+fn serve_closing<H: Threads + Wait + Net + Clock + Sync, R: Read + Send, W: Write>(
+    rt: &H,
+    alloc: Global,
+    service: &ServeOptions,
+    log: &Log,
+    reader: &mut R,
+    output: &mut W,
+) -> Result<(), RunError>
+    ensures written { IsServedFor service.now result (W.contents output.old) (W.contents output.new) }
+    ensures read { IfOk result (λ _. IsAtEnd (R.remaining reader.new)) }
+{
+    let ended = serve_reading(rt, alloc, service, log, reader, output);
+    log.close();
+    ended
+}
+
+/// Serves until this reader has ended.
+fn serve_reading<H: Threads + Wait + Net + Clock + Sync, R: Read + Send, W: Write>(
+    rt: &H,
+    alloc: Global,
+    service: &ServeOptions,
+    log: &Log,
+    reader: &mut R,
+    output: &mut W,
+) -> Result<(), RunError>
+    ensures written { IsServedFor service.now result (W.contents output.old) (W.contents output.new) }
+    ensures read { IfOk result (λ _. IsAtEnd (R.remaining reader.new)) }
+{
+    let settings = ServeSettings {
+        capacity: service.setup.capacity.get() as usize,
+        workers: service.workers,
+        max_inflight: service.setup.max_inflight,
+        drain: service.drain,
+        newcomers: newcomers_of(service.keep_parked),
+    };
+    let at = ListenAt {
+        address: service.address,
+        port: service.port,
+        metrics: service.metrics,
+    };
+    serve_at(
+        rt,
+        alloc,
+        settings,
+        &service.setup.groups,
+        at,
+        log,
+        reader,
+        output,
+    )
+}
+
+/// What a broker does for a client that has no session.
+fn newcomers_of(keep_parked: bool) -> Newcomers {
+    if keep_parked {
+        Newcomers::IfRoom
+    } else {
+        Newcomers::Displace
+    }
+}
