@@ -1,5 +1,7 @@
 """The attacks of `tools/attack`, each with its limits. A function here runs in each process of its attack, until the attack is over."""
+import collections
 import dataclasses
+import itertools
 import select
 import selectors
 import time
@@ -16,6 +18,8 @@ PACKET_MAXIMUM = 65_536  # the broker takes no longer packet
 PAYLOAD_SIZE = 65_000
 LEVELS = 30_000
 SILENT_CONNECTIONS = 800
+STORM_CONNECTIONS = 1_500  # of each process
+NEVER = 0xFFFFFFFF  # the Session Expiry Interval of a session that never expires
 HOLD = 0.1  # seconds for which a member that is to die takes jobs, unless it has all it may before
 PAUSE = 0.01  # seconds before a client comes again that was closed or could not connect
 OPENING_PATIENCE = 0.05  # seconds for a connection; where the queue of the listener is full, the next one is tried
@@ -185,6 +189,36 @@ def silent(work):
     work.again(once)
 
 
+def silent_storm(work):
+    """Connections that send nothing; the one that was opened first is closed for each that is opened, where the broker has not closed it."""
+    streams = collections.deque()
+
+    def once():
+        try:
+            streams.append(Client(work.port, OPENING_PATIENCE).socket)
+            work.did()
+        finally:
+            while len(streams) > STORM_CONNECTIONS:
+                streams.popleft().close()
+
+    work.again(once)
+
+
+def parked(work):
+    """Sessions that never expire, each of a client of its own that comes once."""
+    names = itertools.count()
+
+    def once():
+        with Client(work.port, ANSWER_PATIENCE) as client:
+            client.send(connect(f"{work.name}-{next(names)}", expiry=NEVER))
+            connack = client.wait_for(0x20)
+            if connack[1]:
+                raise Refused(f"CONNACK {connack[1]:02X}")
+        work.did()
+
+    work.again(once)
+
+
 def take_and_die(work):
     def once():
         with Client(work.port, ANSWER_PATIENCE) as member:
@@ -219,6 +253,8 @@ ATTACKS = {
     "churn": Attack(4, churn, "cycles"),
     "takeover": Attack(4, takeover, "connections"),
     "silent": Attack(1, silent, "connections", by_second=False, before=SILENT_CONNECTIONS),
+    "silent-storm": Attack(4, silent_storm, "connections", before=4 * STORM_CONNECTIONS),
+    "parked": Attack(4, parked, "sessions", before=512),
     "payloads": Attack(4, payloads, "packets"),
     "take-and-die": Attack(1, take_and_die, "jobs taken", before=0),
 }

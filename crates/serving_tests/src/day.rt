@@ -2,8 +2,10 @@
 ghost use Rattle.std.specs.Prelude.{◌≤◌};
 
 use crate::wrong::Wrong;
+use broker_log::{Level, Log};
 use conn_rules::MaxInflight;
 use mqtt_topic::Routes;
+use session_desk::Newcomers;
 use std::alloc::Global;
 use std::io::Read;
 use std::net::{Ipv4Addr, Net, TcpListener, TcpStream};
@@ -133,6 +135,7 @@ fn serve<R: Threads + Wait + Net<Listener = TcpListener, Stream = TcpStream> + C
         workers: broker.workers.clamp(1, 64),
         max_inflight: MaxInflight::most(),
         drain: broker.drain,
+        newcomers: Newcomers::Displace,
     };
     let at = ListenAt {
         address: Ipv4Addr::LOCALHOST,
@@ -141,12 +144,16 @@ fn serve<R: Threads + Wait + Net<Listener = TcpListener, Stream = TcpStream> + C
     };
     let mut input = Held { rt, ends: closes };
     let mut output = Vec::new(alloc);
+    let Ok(log) = Log::open(alloc, Level::Off) else {
+        return (Err(RunError::Memory), output);
+    };
     let ended = serve_at(
         rt,
         alloc,
         settings,
-        Routes::new(alloc),
+        &Routes::new(alloc),
         at,
+        &log,
         &mut input,
         &mut output,
     );

@@ -1,4 +1,4 @@
-//! Tests of `threaded_broker` over transports in memory, of `tcp_server` over the loopback, both ends in one process, and of `metrics`.
+//! Tests of `threaded_broker` over transports in memory, of `tcp_server` over the loopback, both ends in one process, of `metrics`, and of what a log has.
 #![tactic(auto)]
 
 #[cfg(test)]
@@ -9,6 +9,8 @@ mod fleet;
 mod in_memory;
 #[cfg(test)]
 mod link;
+#[cfg(test)]
+mod logging;
 #[cfg(test)]
 mod loopback;
 #[cfg(test)]

@@ -24,7 +24,7 @@ fn shares(alloc: Global, text: &'static str) -> Result<Vec<Share>, AllocError> {
     Ok(shares)
 }
 
-/// What two workers count of a group, of which one accepts and the other hands out; and of another group, which has no share from the start.
+/// What two workers count of a group, of which one accepts and the other hands out; and of another group, whose share is not known.
 fn count(workers: &[SharedCounts]) {
     let mut first = WorkerCounts::NONE;
     first.supply.groups[0].accepted = 7;
@@ -37,6 +37,7 @@ fn count(workers: &[SharedCounts]) {
     second.opened = 2;
     second.served.stalled = 1;
     second.supply.sessions.begun = 1;
+    second.connected = 1;
     for (worker, counts) in workers.iter().zip([first, second].iter()) {
         worker.store(counts);
     }
@@ -55,7 +56,7 @@ fn numbers_as_text(rt: HostRuntime) -> Result<(), Fail> {
         capacity: 10,
     };
     let text = String::from_utf8(service.exposition()?)?;
-    let lines: [&str; 11] = [
+    let lines: [&str; 12] = [
         "# HELP share_broker_jobs_queued Jobs that were never handed out.\n# TYPE share_broker_jobs_queued gauge\n",
         "\nshare_broker_jobs_accepted_total{group=\"$share/a\\\"b/job\\\\\\n\"} 7\n",
         "\nshare_broker_jobs_accepted_total{group=\"slot 5\"} 1\n",
@@ -65,12 +66,75 @@ fn numbers_as_text(rt: HostRuntime) -> Result<(), Fail> {
         "\nshare_broker_jobs_held{group=\"$share/a\\\"b/job\\\\\\n\"} 3\n",
         "\nshare_broker_queue_room{group=\"$share/a\\\"b/job\\\\\\n\"} 7\n",
         "\nshare_broker_connections 1\n",
+        "\nshare_broker_connections_connected 1\n",
         "\nshare_broker_sessions 1\n",
         "\nshare_broker_worker_turns_total{worker=\"0\"} 3\n",
     ];
     for line in lines {
         assert!(&rt; text.contains(line));
     }
+    Ok(())
+}
+
+/// How many lines there are of this family, whose value is 0.
+fn zeros(text: &str, family: &str) -> usize {
+    text.lines()
+        .filter(|line| line.starts_with(family) && line.ends_with(" 0"))
+        .count()
+}
+
+// Each Reason Code that this broker sends in a packet has a line, also where it was not sent yet.
+#[test]
+fn answers_as_text(rt: HostRuntime) -> Result<(), Fail> {
+    let workers = shared_counts(rt.alloc(), 1)?;
+    let service = MetricsService {
+        rt: &rt,
+        alloc: rt.alloc(),
+        workers: &workers,
+        shares: &[],
+        capacity: 10,
+    };
+    let text = String::from_utf8(service.exposition()?)?;
+    let families: [(&str, usize); 4] = [
+        ("share_broker_connacks_total{code=\"0x", 7),
+        ("share_broker_pubacks_total{code=\"0x", 3),
+        ("share_broker_subacks_total{code=\"0x", 4),
+        ("share_broker_disconnects_total{code=\"0x", 10),
+    ];
+    for (family, count) in families {
+        assert_eq!(&rt; zeros(&text, family), count);
+    }
+    assert!(&rt; text.contains("\nshare_broker_disconnects_total{code=\"0x8E\"} 0\n"));
+    assert!(&rt; text.contains("\nshare_broker_sessions_taken_over_total 0\n"));
+    Ok(())
+}
+
+// The share of a slot that is bound later is told by its text, once a worker has put that down; and only the first one counts.
+#[test]
+fn shares_that_clients_bind(rt: HostRuntime) -> Result<(), Fail> {
+    let workers = shared_counts(rt.alloc(), 2)?;
+    count(&workers);
+    let bound = shares(rt.alloc(), "$share/later/x")?;
+    let other = shares(rt.alloc(), "$share/other/x")?;
+    for share in bound.iter().chain(other.iter()) {
+        workers[1].store_share(5, share)?;
+    }
+    let service = MetricsService {
+        rt: &rt,
+        alloc: rt.alloc(),
+        workers: &workers,
+        shares: &[],
+        capacity: 10,
+    };
+    let text = String::from_utf8(service.exposition()?)?;
+    let lines: [&str; 2] = [
+        "\nshare_broker_jobs_accepted_total{group=\"slot 0\"} 7\n",
+        "\nshare_broker_jobs_accepted_total{group=\"$share/later/x\"} 1\n",
+    ];
+    for line in lines {
+        assert!(&rt; text.contains(line));
+    }
+    assert!(&rt; !text.contains("$share/other"));
     Ok(())
 }
 

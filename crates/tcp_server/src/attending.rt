@@ -6,13 +6,14 @@ ghost use Rattle.tcp_server.specs.Reporting.{AreReportsAt, HaveCapacity};
 
 use crate::beside::{BesideMetrics, Metrics};
 use crate::drain::Drain;
-use crate::listening::Awaited;
+use crate::lobby::Lobby;
 use crate::outcome::{Reported, report_outcome};
 use crate::serving::ServingEnd;
 use crate::settings::ServeSettings;
 use crate::setup::SocketSetup;
 use crate::watching::Watching;
 use broker_groups::Broker;
+use broker_log::{Level, Log};
 use call_history::HistoryName;
 use group_queue::Nobody;
 use mqtt_topic::Routes;
@@ -23,7 +24,7 @@ use std::rt::Clock as SystemClock;
 use std::sync::Wait;
 use std::sync::atomic::AtomicBool;
 use std::thread::Threads;
-use tcp_edge::{TcpSource, Until};
+use tcp_edge::Until;
 use text_io::RunError;
 use threaded_broker::{Closers, OpenBroker, serve};
 use worker_pool::Closer;
@@ -47,9 +48,10 @@ pub(crate) fn attend<
     settings: ServeSettings,
     ends: &'x AtomicBool,
     drain: &'x Drain,
-    metrics: Option<Metrics<'_, R>>,
+    metrics: Option<Metrics<'x, R>>,
+    log: &'x Log,
     setup: SocketSetup<'_, R>,
-    source: Awaited<TcpSource>,
+    lobby: Lobby<'x, R>,
     closers: Closers<'_, B>,
     stopper: Closer<'_, B>,
     input: &mut I,
@@ -66,9 +68,11 @@ pub(crate) fn attend<
         ends,
         drain,
         settings,
+        alloc,
+        log,
         is_read: false,
     };
-    let source = Until::new(BesideMetrics { source, metrics }, ends);
+    let source = Until::new(BesideMetrics { lobby, metrics }, ends);
     let Ok(outcome) = serve(
         rt,
         alloc,
@@ -83,5 +87,17 @@ pub(crate) fn attend<
         return Err(RunError::Memory);
     };
     let reported = report_outcome(alloc, outcome, watching.is_read)?;
+    say_end(log, alloc, &reported.end);
     Ok(reported)
+}
+
+/// Says what went wrong as a broker came to its end, if something did.
+fn say_end(log: &Log, alloc: Global, end: &Result<ServingEnd, RunError>) {
+    let text = match end {
+        Ok(ServingEnd::Ended) | Ok(ServingEnd::InputFailed) => return,
+        Ok(ServingEnd::NotAccepted) => "the listener failed",
+        Err(RunError::Memory) => "there is no memory for the report of a group",
+        Err(_) => "what became of the jobs of a group is not known",
+    };
+    log.say(Level::Error, String::from_str(alloc, text));
 }

@@ -1,14 +1,16 @@
 //! The metrics of a broker, told while it waits for connections.
-ghost use Rattle.std.specs.Prelude.{◌≡◌};
-ghost use Rattle.transport.specs.Counting.{ComesNew, MayCome, after_arrival, after_came};
+ghost use Rattle.std.specs.Prelude.{◌≡◌, None};
+ghost use Rattle.transport.specs.Counting.{ComesNew, MayCome, after_arrival};
 
-use crate::listening::Awaited;
+use crate::lobby::Lobby;
 use metrics::{MetricsServer, MetricsService};
+use mio::net::TcpStream;
 use std::marker::Model;
 use std::rt::Clock as SystemClock;
 use std::sync::Wait;
 use std::time::Instant;
-use transport::{Arrival, Source, Transport};
+use tcp_edge::Socket;
+use transport::{Arrival, Source};
 
 /// The metrics of a broker: who is asked for them, and by what that answers.
 #[derive(Drop)]
@@ -25,54 +27,55 @@ impl<'a, R: Wait + SystemClock> Metrics<'a, R> {
     }
 }
 
-/// A source that waits by itself, and goes on with who asks for the metrics of its broker, where it has any, each time that it is asked.
+/// A lobby, which goes on with who asks for the metrics of its broker, where it has any, each time that it is asked.
 ///
-/// Contracts see it as the source below.
+/// Contracts see it as the tally of the lobby.
 #[derive(Drop)]
-pub(crate) struct BesideMetrics<'a, S, R> {
-    pub(crate) source: Awaited<S>,
+pub(crate) struct BesideMetrics<'a, R> {
+    pub(crate) lobby: Lobby<'a, R>,
     pub(crate) metrics: Option<Metrics<'a, R>>,
 }
 
-impl<'a, S, R> Model for BesideMetrics<'a, S, R> {
-    ghost Value = { S };
+impl<'a, R> Model for BesideMetrics<'a, R> {
+    ghost use Rattle.transport.specs.declared.counts.Tally.{Tally};
 
-    ghost view = { λ b. b.source };
+    ghost Value = { Tally };
+
+    ghost view = { λ b. b.lobby };
 }
 
-impl<'a, S, R: Wait + SystemClock> BesideMetrics<'a, S, R> {
+impl<'a, R: Wait + SystemClock> BesideMetrics<'a, R> {
     /// Goes on with who asks for metrics.
     fn answer(&mut self)
         ensures { self.new ≡ self.old }
     {
         if let Some(metrics) = &mut self.metrics {
             if let Some(patience) = metrics.go_on() {
-                self.source.wait_at_most(patience);
+                self.lobby.wait_at_most(patience);
             }
         }
     }
 }
 
-impl<'a, T: Transport, S: Source<T>, R: Wait + SystemClock> Source<T> for BesideMetrics<'a, S, R> {
-    ghost tally = { λ s. S.tally s };
+impl<'a, R: Wait + SystemClock> Source<Socket<TcpStream>> for BesideMetrics<'a, R> {
+    ghost tally = { λ b. b };
 
-    ghost arrived = { λ s. S.arrived s };
+    ghost arrived = { λ _. None };
 
-    fn next(&mut self) -> Arrival<T>
-        requires { MayCome (S.tally self.old) }
-        ensures tally { S.tally self.new ≡ after_arrival result (S.tally self.old) }
-        ensures arrived { S.arrived self.new ≡ after_came result (S.arrived self.old) }
-        ensures new { ComesNew T.counts result }
+    fn next(&mut self) -> Arrival<Socket<TcpStream>>
+        requires { MayCome self.old }
+        ensures tally { self.new ≡ after_arrival result self.old }
+        ensures new { ComesNew (λ socket. socket.counts) result }
     {
         self.answer();
-        self.source.next()
+        self.lobby.next()
     }
 
     fn failures(&self) -> u64 {
-        self.source.failures()
+        self.lobby.failures()
     }
 
     fn arrivals(&self) -> u64 {
-        self.source.arrivals()
+        self.lobby.arrivals()
     }
 }

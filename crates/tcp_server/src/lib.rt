@@ -8,7 +8,8 @@ mod beside;
 mod drain;
 mod elapsed;
 mod listeners;
-mod listening;
+mod lobby;
+mod logging;
 mod metering;
 mod outcome;
 mod reporting;
@@ -19,6 +20,7 @@ mod socket_poller;
 mod watching;
 
 pub use listeners::{ListenAt, Listeners};
+pub use logging::{BrokerLog, LogPart};
 pub use outcome::{Reported, report_outcome};
 pub use serving::{ServingEnd, serve_at, serve_with};
 pub use settings::ServeSettings;

@@ -1,7 +1,7 @@
 //! What a worker counts, as its metrics have it.
 use metrics::{SharedCounts, WorkerCounts};
-use shared_supply::SupplyCounts;
-use worker_connections::ServedCounts;
+use shared_routes::KnownRoutes;
+use worker_connections::Tallies;
 
 /// The part of one worker in the metrics of its broker.
 #[derive(Drop)]
@@ -11,6 +11,8 @@ pub(crate) struct MetricsPart<'a> {
     opened: u64,
     turns: u64,
     calls: u64,
+    // How many shares it has put down, from the first slot on.
+    shares: u8,
 }
 
 impl<'a> MetricsPart<'a> {
@@ -21,6 +23,7 @@ impl<'a> MetricsPart<'a> {
             opened: 0,
             turns: 0,
             calls: 0,
+            shares: 0,
         }
     }
 
@@ -36,16 +39,31 @@ impl<'a> MetricsPart<'a> {
     }
 
     /// Puts down what its worker has counted, and whether it drains.
-    pub(crate) fn tell(&self, supply: &SupplyCounts, served: &ServedCounts, drains: bool) {
+    pub(crate) fn tell(&mut self, told: &Tallies<'_>, drains: bool) {
         if let Some(place) = self.place {
+            self.shares = tell_shares(place, told.routes, self.shares);
             place.store(&WorkerCounts {
-                supply: *supply,
-                served: *served,
+                supply: *told.supply,
+                served: *told.served,
+                answers: *told.answers,
+                connected: told.connected,
                 opened: self.opened,
                 turns: self.turns,
                 calls: self.calls,
                 draining: u64::from(drains),
             });
         }
+    }
+}
+
+/// Puts down the share of the slot behind those that are put down already, if it is known to be bound. How many are put down then; where an allocation fails, it waits
+/// for the next time, as the others do.
+fn tell_shares(place: &SharedCounts, routes: &KnownRoutes<'_>, shares: u8) -> u8 {
+    match routes.share(shares) {
+        Some(share) => match place.store_share(shares, share) {
+            Ok(()) => shares.saturating_add(1),
+            Err(_) => shares,
+        },
+        None => shares,
     }
 }

@@ -13,11 +13,13 @@ use crate::attending::attend;
 use crate::beside::Metrics;
 use crate::drain::Drain;
 use crate::listeners::{ListenAt, Listeners};
-use crate::listening::Awaited;
+use crate::lobby::Lobby;
+use crate::logging::BrokerLog;
 use crate::outcome::Reported;
 use crate::settings::ServeSettings;
 use crate::setup::socket_setup;
 use broker_groups::{Broker, BrokerName, BrokerPlace, Opened, Witnessed};
+use broker_log::Log;
 use call_history::HistoryName;
 use gate_word::{Gate, GateSeat};
 use group_queue::Nobody;
@@ -49,7 +51,7 @@ pub enum ServingEnd {
 }
 
 /// Serves a broker at an address and port of this machine by these settings, with these groups from the start. Writes `listening PORT` on a
-/// line, serves until the input has ended, drains, where its settings say so, closes, and writes the lines of the reports of the groups whose shares are bound, in the order of their slots.
+/// line, serves until the input has ended, drains, where its settings say so, closes, says to the log what it does meanwhile, and writes the lines of the reports of the groups whose shares are bound, in the order of their slots.
 ///
 /// # Errors
 ///
@@ -61,14 +63,15 @@ pub fn serve_at<R: Threads + Wait + Net + SystemClock + Sync, I: Read + Send, O:
     rt: &R,
     alloc: Global,
     settings: ServeSettings,
-    groups: Routes,
+    groups: &Routes,
     at: ListenAt,
+    log: &Log,
     input: &mut I,
     output: &mut O,
 ) -> Result<(), RunError>
     requires capacity { (1 ≤ settings.capacity) × (settings.capacity ≤ 65536) }
     requires workers { (1 ≤ settings.workers) × (settings.workers ≤ 64) }
-    ensures written { IsServedAt at.port settings.capacity settings.workers settings.max_inflight groups result (O.contents output.old) (O.contents output.new) }
+    ensures written { IsServedAt at.port settings.capacity settings.workers settings.max_inflight groups.now result (O.contents output.old) (O.contents output.new) }
     ensures read { IfOk result (λ _. IsAtEnd (I.remaining input.new)) }
 {
     let Ok(source) = TcpSource::open(rt, at.address, at.port) else {
@@ -80,7 +83,7 @@ pub fn serve_at<R: Threads + Wait + Net + SystemClock + Sync, I: Read + Send, O:
         Err(OpenError::System) => return Err(RunError::Network),
     };
     let listeners = Listeners { source, metrics };
-    serve_with(rt, alloc, settings, groups, listeners, input, output)
+    serve_with(rt, alloc, settings, groups, listeners, log, input, output)
 }
 
 /// Serves a broker over listeners that are open, as [`serve_at`].
@@ -88,20 +91,21 @@ pub fn serve_with<R: Threads + Wait + Net + SystemClock + Sync, I: Read + Send, 
     rt: &R,
     alloc: Global,
     settings: ServeSettings,
-    groups: Routes,
+    groups: &Routes,
     listeners: Listeners,
+    log: &Log,
     input: &mut I,
     output: &mut O,
 ) -> Result<(), RunError>
     requires capacity { (1 ≤ settings.capacity) × (settings.capacity ≤ 65536) }
     requires workers { (1 ≤ settings.workers) × (settings.workers ≤ 64) }
-    ensures written { IsServed (listening_line listeners.source.port) settings.capacity settings.workers settings.max_inflight groups result (O.contents output.old) (O.contents output.new) }
+    ensures written { IsServed (listening_line listeners.source.port) settings.capacity settings.workers settings.max_inflight groups.now result (O.contents output.old) (O.contents output.new) }
     ensures read { IfOk result (λ _. IsAtEnd (I.remaining input.new)) }
 {
     let Listeners { source, metrics } = listeners;
     let port = source.port();
-    let source = match Awaited::new(rt, alloc, source) {
-        Ok(source) => source,
+    let lobby = match Lobby::open(rt, alloc, source) {
+        Ok(lobby) => lobby,
         Err(ReactorError::Memory) => return Err(RunError::Memory),
         Err(_) => return Err(RunError::Network),
     };
@@ -120,10 +124,11 @@ pub fn serve_with<R: Threads + Wait + Net + SystemClock + Sync, I: Read + Send, 
             seats,
             opened,
             settings,
-            &groups,
-            source,
+            groups,
+            lobby,
             metrics,
             line.as_bytes(),
+            log,
             input,
             output,
         )?,
@@ -166,9 +171,10 @@ fn live<
     opened: Opened<'_>,
     settings: ServeSettings,
     groups: &Routes,
-    source: Awaited<TcpSource>,
+    lobby: Lobby<'_, R>,
     metrics: Option<MetricsServer>,
     line: &[u8],
+    log: &Log,
     input: &mut I,
     output: &mut O,
 ) -> Result<Reported, RunError>
@@ -182,10 +188,10 @@ fn live<
     ensures read { IfOk result (λ reported. reported.end ≡ Ok ServingEnd.Ended → IsAtEnd (I.remaining input.new)) }
     ensures failed { IfErr result (λ error. EndsUnreported line.now error (O.contents output.old) (O.contents output.new)) }
 {
-    match OpenedDesk::open(alloc) {
+    match OpenedDesk::open(alloc, settings.newcomers) {
         Ok(desk) => live_with::<Witnessed<M, Nobody>, Brand, R, I, O>(
-            rt, alloc, gate, seats, opened, desk, settings, groups, source, metrics, line, input,
-            output,
+            rt, alloc, gate, seats, opened, desk, settings, groups, lobby, metrics, line, log,
+            input, output,
         ),
         Err(_) => {
             opened.abandon();
@@ -211,9 +217,10 @@ fn live_with<
     desk: OpenedDesk<BrokerPlace<B>>,
     settings: ServeSettings,
     groups: &'x Routes,
-    source: Awaited<TcpSource>,
+    lobby: Lobby<'x, R>,
     metrics: Option<MetricsServer>,
     line: &[u8],
+    log: &'x Log,
     input: &mut I,
     output: &mut O,
 ) -> Result<Reported, RunError>
@@ -253,7 +260,17 @@ fn live_with<
         broker.abandon();
         return Err(RunError::Memory);
     };
-    let Some(setup) = socket_setup(rt, alloc, count, settings.max_inflight, &drain, &places) else {
+    let broker_log = BrokerLog::of(log, alloc);
+    tell_shares(&broker_log, groups);
+    let Some(setup) = socket_setup(
+        rt,
+        alloc,
+        count,
+        settings.max_inflight,
+        &drain,
+        &places,
+        &broker_log,
+    ) else {
         broker.abandon();
         return Err(RunError::Memory);
     };
@@ -270,12 +287,19 @@ fn live_with<
     };
     match write_all(output, line) {
         Ok(()) => attend(
-            rt, alloc, broker, groups, settings, &ends, &drain, metrics, setup, source, closers,
-            stopper, input,
+            rt, alloc, broker, groups, settings, &ends, &drain, metrics, log, setup, lobby,
+            closers, stopper, input,
         ),
         Err(error) => {
             broker.abandon();
             Err(error)
         }
+    }
+}
+
+/// Says which shares are bound from the start.
+fn tell_shares(log: &BrokerLog<'_>, groups: &Routes) {
+    for (slot, share) in groups.shares().iter().enumerate() {
+        log.bound(slot, share.text());
     }
 }

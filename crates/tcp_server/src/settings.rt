@@ -1,5 +1,6 @@
 //! How a broker on TCP serves.
 use conn_rules::MaxInflight;
+use session_desk::Newcomers;
 
 /// How a broker on TCP serves.
 #[derive(Clone, Copy, Debug, PartialEq, Eq)]
@@ -12,4 +13,6 @@ pub struct ServeSettings {
     pub max_inflight: MaxInflight,
     /// For how many seconds at most the broker drains once its input has ended; 0 where it does not drain.
     pub drain: u32,
+    /// What it does for a client that has no session, until it drains; then none begins.
+    pub newcomers: Newcomers,
 }

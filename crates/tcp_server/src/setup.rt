@@ -3,6 +3,7 @@ ghost use Rattle.std.specs.Prelude.{◌≡◌, length, IfSome};
 
 use crate::drain::{Drain, DrainPart};
 use crate::elapsed::Elapsed;
+use crate::logging::{BrokerLog, LogPart};
 use crate::metering::MetricsPart;
 use crate::socket_poller::SocketPoller;
 use broker_worker::UnusedPoller;
@@ -14,12 +15,13 @@ use std::net::Net;
 use std::rt::Clock as SystemClock;
 use std::time::Instant;
 use tcp_edge::{Reactor, Socket};
+use worker_bells::share_of;
 use worker_pool::PoolSetup;
 
 /// A reactor with a clock and an alarm for each worker.
 pub(crate) type SocketSetup<'a, R> = PoolSetup<Socket<TcpStream>, SocketPoller<'a, R>>;
 
-/// What so many workers need, whose clocks begin now, and who drain together. Each puts what it counts into the place of its number, where there is one. `None` where an allocation fails, or the system refuses.
+/// What so many workers need, whose clocks begin now, and who drain together. Each puts what it counts into the place of its number, where there is one, and all say what they do to this log. `None` where an allocation fails, or the system refuses.
 pub(crate) fn socket_setup<'a, R: Net + SystemClock>(
     rt: &'a R,
     alloc: Global,
@@ -27,6 +29,7 @@ pub(crate) fn socket_setup<'a, R: Net + SystemClock>(
     max_inflight: MaxInflight,
     drain: &'a Drain,
     places: &'a [SharedCounts],
+    log: &'a BrokerLog<'a>,
 ) -> Option<SocketSetup<'a, R>>
     ensures count { IfSome result (λ setup. length setup.unused_pollers.items ≡ count) }
     ensures limit { IfSome result (λ setup. setup.max_inflight ≡ max_inflight) }
@@ -41,6 +44,7 @@ pub(crate) fn socket_setup<'a, R: Net + SystemClock>(
             Elapsed::since(rt, start),
             DrainPart::of(drain),
             MetricsPart::of(places.get(worker)),
+            LogPart::of(log, usize::from(share_of(count)).saturating_mul(worker)),
         );
         unused_pollers.push(UnusedPoller::new(poller)).ok()?;
         alarms.push(alarm).ok()?;

@@ -3,38 +3,41 @@ ghost use Rattle.std.specs.Prelude.{◌≡◌, None};
 
 use crate::drain::DrainPart;
 use crate::elapsed::Elapsed;
+use crate::logging::LogPart;
 use crate::metering::MetricsPart;
 use mio::net::TcpStream;
-use shared_supply::SupplyCounts;
 use std::rt::Clock as SystemClock;
 use std::sync::Wait;
 use std::time::Duration;
 use tcp_edge::{Alarm, Reactor, Socket};
 use transport::Crossing;
-use worker_connections::{Poller, ServedCounts, Woken};
+use worker_connections::{Notice, Poller, Tallies, Woken};
 
-/// A reactor, as a worker waits there, a clock, and the worker's parts in a drain and in the metrics.
+/// A reactor, as a worker waits there, a clock, and the worker's parts in a drain, in the metrics and in the log.
 #[derive(Drop)]
 pub(crate) struct SocketPoller<'a, R> {
     reactor: Reactor,
     clock: Elapsed<'a, R>,
     drain: DrainPart<'a>,
     metrics: MetricsPart<'a>,
+    log: LogPart<'a>,
 }
 
 impl<'a, R: SystemClock> SocketPoller<'a, R> {
-    /// A worker waits at this reactor, and has this clock and these parts in a drain and in the metrics.
+    /// A worker waits at this reactor, and has this clock and these parts in a drain, in the metrics and in the log.
     pub(crate) fn new(
         reactor: Reactor,
         clock: Elapsed<'a, R>,
         drain: DrainPart<'a>,
         metrics: MetricsPart<'a>,
+        log: LogPart<'a>,
     ) -> SocketPoller<'a, R> {
         SocketPoller {
             reactor,
             clock,
             drain,
             metrics,
+            log,
         }
     }
 }
@@ -55,7 +58,11 @@ impl<'a, R: SystemClock> Poller<Socket<TcpStream>> for SocketPoller<'a, R> {
 
     fn register(&mut self, transport: &mut Socket<TcpStream>) -> Option<usize> {
         self.metrics.count_opened();
-        self.reactor.register(transport).ok()
+        let number = self.reactor.register(transport).ok();
+        if self.log.is_on() {
+            self.log.opened(number, transport.peer());
+        }
+        number
     }
 
     fn close(&mut self, number: Option<usize>, transport: Socket<TcpStream>) {
@@ -67,23 +74,30 @@ impl<'a, R: SystemClock> Poller<Socket<TcpStream>> for SocketPoller<'a, R> {
         }
     }
 
-    fn wait<W: Wait>(
-        &mut self,
-        rt: &W,
-        at_most: u64,
-        counts: &SupplyCounts,
-        served: &ServedCounts,
-    ) -> Woken {
-        self.drain.tell(counts.unsettled());
-        self.metrics.tell(counts, served, self.drain.drains());
+    fn notice(&mut self, number: usize, notice: &Notice<'_>) {
+        match notice {
+            Notice::Connected {
+                client,
+                session_present,
+            } => self.log.connected(number, client, *session_present),
+            Notice::Ended { served, last } => self.log.ended(number, *served, *last),
+        }
+    }
+
+    fn wait<W: Wait>(&mut self, rt: &W, at_most: u64, told: &Tallies<'_>) -> Woken {
+        self.drain.tell(told.supply.unsettled());
+        self.metrics.tell(told, self.drain.drains());
         let called = self
             .reactor
             .wait(rt, Duration::from_millis(at_most))
             .unwrap_or(false);
         self.metrics.count_turn(called);
+        let now = self.clock.now();
+        self.log.look(told.supply, now);
+        self.log.bound(told.routes);
         Woken {
             called,
-            now: self.clock.now(),
+            now,
             drains: self.drain.look(),
         }
     }

@@ -5,6 +5,8 @@ ghost use Rattle.std.specs.Io.KnownBytes.{IsAtEnd};
 use crate::drain::Drain;
 use crate::settings::ServeSettings;
 use broker_groups::Broker;
+use broker_log::{Level, Log};
+use std::alloc::Global;
 use std::io::{ErrorKind, Read};
 use std::rt::Clock as SystemClock;
 use std::sync::atomic::{AtomicBool, Ordering};
@@ -22,6 +24,22 @@ const CLOSE_DELAY: u64 = 100;
 /// How many milliseconds lie between two looks whether all is settled.
 const DRAIN_LOOK: u64 = 10;
 
+/// In how many milliseconds a read answers that did not wait.
+const AT_ONCE: u128 = 10;
+
+/// How a drain came to its end.
+#[derive(Clone, Copy, Debug, PartialEq, Eq)]
+enum DrainEnd {
+    /// The broker was not to drain.
+    NotAsked,
+    /// All that was accepted is settled.
+    Settled,
+    /// Its time is over, or the clock can't be read.
+    Over,
+    /// The broker was closed meanwhile.
+    Closed,
+}
+
 /// Reads the input to its end, has the broker drain, and closes it soon after that.
 #[derive(Drop)]
 pub(crate) struct Watching<'a, B: Broker, R> {
@@ -30,6 +48,8 @@ pub(crate) struct Watching<'a, B: Broker, R> {
     pub(crate) ends: &'a AtomicBool,
     pub(crate) drain: &'a Drain,
     pub(crate) settings: ServeSettings,
+    pub(crate) alloc: Global,
+    pub(crate) log: &'a Log,
     /// Whether the input has ended, and did not fail.
     pub(crate) is_read: bool,
 }
@@ -41,12 +61,50 @@ impl<'a, B: Broker, R: SystemClock, I: Read> Watch<I> for Watching<'a, B, R> {
     ghost has_watched = { λ old new before after. new.is_read ≡ true → IsAtEnd (I.remaining after) };
 
     fn run(&mut self, input: &mut I) {
-        self.is_read = read_to_end(input);
-        wait_until_settled(self.rt, self.drain, self.settings, &mut self.stopper);
+        self.is_read = read_to_end(self.rt, self.log, input);
+        say_input_over(self.log, self.alloc, self.is_read, self.settings.drain);
+        let end = wait_until_settled(self.rt, self.drain, self.settings, &mut self.stopper);
+        say_drained(self.log, self.alloc, end);
         thread::sleep(self.rt, Duration::from_millis(CLOSE_DELAY));
+        self.log.say(
+            Level::Info,
+            String::from_str(self.alloc, "the broker closes"),
+        );
         self.stopper.shut();
         self.ends.store(true, Ordering::SeqCst);
     }
+}
+
+/// Says that the input has ended, or failed, and for how many seconds at most the broker drains.
+fn say_input_over(log: &Log, alloc: Global, is_read: bool, seconds: u32) {
+    if is_read {
+        log.say(
+            Level::Info,
+            String::from_str(alloc, "standard input has ended"),
+        );
+    } else {
+        log.say(
+            Level::Error,
+            String::from_str(alloc, "standard input failed"),
+        );
+    }
+    if seconds != 0 {
+        log.say(
+            Level::Info,
+            format!(in alloc; "the broker drains for {seconds} seconds at most"),
+        );
+    }
+}
+
+/// Says how a drain came to its end, where there was one.
+fn say_drained(log: &Log, alloc: Global, end: DrainEnd) {
+    let text = match end {
+        DrainEnd::NotAsked => return,
+        DrainEnd::Settled => "drained: each job that was accepted is settled",
+        DrainEnd::Over => "the drain is over in time: jobs that were accepted are not settled",
+        DrainEnd::Closed => "the drain is over: the broker was closed meanwhile",
+    };
+    log.say(Level::Info, String::from_str(alloc, text));
 }
 
 /// Has the broker drain until all that it accepted is settled, where its settings say so, and no longer than they say; and no longer than it is open.
@@ -55,24 +113,28 @@ fn wait_until_settled<B: Broker, R: SystemClock>(
     drain: &Drain,
     settings: ServeSettings,
     stopper: &mut Closer<'_, B>,
-) {
+) -> DrainEnd {
     if settings.drain == 0 {
-        return;
+        return DrainEnd::NotAsked;
     }
     let most = Duration::from_secs(u64::from(settings.drain));
     let Ok(start) = Instant::now(rt) else {
-        return;
+        return DrainEnd::Over;
     };
     drain.ask();
     for _ in 0..u64::MAX {
-        if drain.is_settled(settings.workers)
-            || stopper.drained().is_some()
-            || is_over(rt, start, most)
-        {
-            return;
+        if drain.is_settled(settings.workers) {
+            return DrainEnd::Settled;
+        }
+        if stopper.drained().is_some() {
+            return DrainEnd::Closed;
+        }
+        if is_over(rt, start, most) {
+            return DrainEnd::Over;
         }
         thread::sleep(rt, Duration::from_millis(DRAIN_LOOK));
     }
+    DrainEnd::Over
 }
 
 /// Whether so much time went by since this moment; or the clock can't be read.
@@ -83,18 +145,36 @@ fn is_over<R: SystemClock>(rt: &R, start: Instant, most: Duration) -> bool {
     }
 }
 
-/// Reads to the end. Whether the reader did not fail.
-fn read_to_end<I: Read>(input: &mut I) -> bool
+/// Whether a call that began at this moment has not waited.
+fn is_at_once<R: SystemClock>(rt: &R, start: Option<Instant>) -> bool {
+    match start {
+        Some(start) => match start.elapsed(rt) {
+            Ok(elapsed) => elapsed.as_millis() < AT_ONCE,
+            Err(_) => false,
+        },
+        None => false,
+    }
+}
+
+/// Reads to the end. Whether the reader did not fail. Where the first read gives the end and did not wait for it, that was there before: the log says so.
+fn read_to_end<I: Read, R: SystemClock>(rt: &R, log: &Log, input: &mut I) -> bool
     ensures { result ≡ true → IsAtEnd (I.remaining input.new) }
 {
     let mut buffer = [0; INPUT_SIZE];
+    let mut first = Instant::now(rt).ok();
     for _ in 0..u64::MAX {
         match input.read(&mut buffer) {
-            Ok(0) => return true,
+            Ok(0) => {
+                if is_at_once(rt, first) {
+                    log.say_input_ended();
+                }
+                return true;
+            }
             Ok(_) => {}
             Err(error) if error.kind() == ErrorKind::Interrupted => {}
             Err(_) => return false,
         }
+        first = None;
     }
     false
 }

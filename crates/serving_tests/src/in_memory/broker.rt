@@ -12,6 +12,7 @@ use gate_word::{Gate, GateSeat};
 use group_jobs::{Envelope, Report};
 use group_queue::Nobody;
 use scripted_transport::Scripted;
+use session_desk::Newcomers;
 use shared_desk::OpenedDesk;
 use std::alloc::{AllocError, Global};
 use std::marker::Brand;
@@ -203,7 +204,7 @@ fn live<
     requires seats { AreSeatsOf gate.now seats.items × (length seats.items ≡ workers + 2) }
     requires opened { IsOfBroker M.gate M.group workers opened }
 {
-    match OpenedDesk::open(alloc) {
+    match OpenedDesk::open(alloc, Newcomers::Displace) {
         Ok(desk) => live_with::<Witnessed<M, Nobody>, Brand, S, R>(
             rt, alloc, gate, seats, opened, desk, workers, source,
         ),

@@ -3,7 +3,6 @@ ghost use Rattle.std.specs.Prelude.{◌≡◌, None, ⊤};
 
 use bell::Wake;
 use scripted_transport::Scripted;
-use shared_supply::SupplyCounts;
 use std::alloc::{AllocError, Global};
 use std::rt::Clock;
 use std::sync::Wait;
@@ -11,7 +10,7 @@ use std::sync::atomic::{AtomicU64, Ordering};
 use std::thread;
 use std::time::Duration;
 use transport::Crossing;
-use worker_connections::{Poller, ServedCounts, Woken};
+use worker_connections::{Notice, Poller, Tallies, Woken};
 use worker_pool::Watch;
 
 /// How many connections a poller watches at most.
@@ -83,13 +82,9 @@ impl<'a, R: Clock> Poller<Scripted> for AlwaysReady<'a, R> {
         }
     }
 
-    fn wait<W: Wait>(
-        &mut self,
-        _rt: &W,
-        _at_most: u64,
-        _counts: &SupplyCounts,
-        _served: &ServedCounts,
-    ) -> Woken {
+    fn notice(&mut self, _number: usize, _notice: &Notice<'_>) {}
+
+    fn wait<W: Wait>(&mut self, _rt: &W, _at_most: u64, _told: &Tallies<'_>) -> Woken {
         self.next = 0;
         thread::yield_now();
         Woken {

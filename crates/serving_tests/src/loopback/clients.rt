@@ -3,8 +3,10 @@ use crate::day::{Counts, Day, Listener, live};
 use crate::link::{ends, gets, open, say, send};
 use crate::loopback::frames;
 use crate::wrong::Wrong;
+use broker_log::{Level, Log};
 use conn_rules::MaxInflight;
 use mqtt_topic::Routes;
+use session_desk::Newcomers;
 use std::alloc::Global;
 use std::io::Read;
 use std::net::{Ipv4Addr, Net, SocketAddr, TcpListener, TcpStream};
@@ -196,7 +198,7 @@ fn new_member<R: Net<Listener = TcpListener, Stream = TcpStream> + Clock>(
 }
 
 /// A client joins the group.
-pub(crate) fn enter(stream: &mut TcpStream, alloc: Global, digit: u8) -> Result<(), Wrong> {
+fn enter(stream: &mut TcpStream, alloc: Global, digit: u8) -> Result<(), Wrong> {
     let connect = frames::connect(b'a'.saturating_add(digit));
     say(stream, alloc, &connect, &frames::CONNACK)?;
     say(stream, alloc, &frames::SUBSCRIBE, &frames::SUBACK)
@@ -308,6 +310,7 @@ fn served_twice<R: Threads + Wait + Net<Listener = TcpListener, Stream = TcpStre
     let _listener = TcpListener::bind(rt, address).ok()?;
     let mut input: &[u8] = b"";
     let mut output = Vec::new(alloc);
+    let log = Log::open(alloc, Level::Off).ok()?;
     let ended = serve_at(
         rt,
         alloc,
@@ -316,13 +319,15 @@ fn served_twice<R: Threads + Wait + Net<Listener = TcpListener, Stream = TcpStre
             workers: 1,
             max_inflight: MaxInflight::most(),
             drain: 0,
+            newcomers: Newcomers::Displace,
         },
-        Routes::new(alloc),
+        &Routes::new(alloc),
         ListenAt {
             address: Ipv4Addr::LOCALHOST,
             port: 18_834,
             metrics: 0,
         },
+        &log,
         &mut input,
         &mut output,
     );

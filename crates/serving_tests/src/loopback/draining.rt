@@ -1,7 +1,7 @@
 //! A broker that drains once its input has ended.
 use crate::day::{Counts, Day, Listener, live};
 use crate::link::{ends, gets, next, open, say, send};
-use crate::loopback::clients::{counts_of, enter};
+use crate::loopback::clients::counts_of;
 use crate::loopback::frames;
 use crate::wrong::Wrong;
 use std::alloc::Global;
@@ -19,8 +19,8 @@ const MOST_JOBS: u64 = 60;
 /// How many milliseconds lie between two of them.
 const PAUSE: u64 = 5;
 
-/// Jobs wait when the input ends, since their member has left. From soon after that on a job is not accepted, and a member that comes is handed those that wait; then the
-/// broker closes.
+/// Jobs wait when the input ends, since their member is away. From soon after that on a job is not accepted, and neither is a client that has no session; the member comes back
+/// to its session and is handed those that wait; then the broker closes.
 #[derive(Drop)]
 struct Draining;
 
@@ -40,13 +40,31 @@ impl Day for Draining {
         closes: &AtomicBool,
     ) -> Result<Counts, Wrong> {
         let mut leaving = open(rt, PORT)?;
-        enter(&mut leaving, alloc, 1)?;
+        say(
+            &mut leaving,
+            alloc,
+            &frames::CONNECT_FOR_AN_HOUR,
+            &frames::CONNACK,
+        )?;
+        say(&mut leaving, alloc, &frames::SUBSCRIBE, &frames::SUBACK)?;
         send(&mut leaving, b"\xE0\x00")?;
         ends(&mut leaving)?;
         let mut publisher = open(rt, PORT)?;
         let accepted = publish_until_drained(rt, &mut publisher, alloc, closes)?;
+        let mut stranger = open(rt, PORT)?;
+        say(
+            &mut stranger,
+            alloc,
+            &frames::connect(b'2'),
+            &frames::SERVER_BUSY,
+        )?;
         let mut member = open(rt, PORT)?;
-        enter(&mut member, alloc, 2)?;
+        say(
+            &mut member,
+            alloc,
+            &frames::CONNECT_FOR_AN_HOUR,
+            &frames::RESUMED,
+        )?;
         take_each(&mut member, alloc, accepted)?;
         gets(&mut publisher, alloc, &frames::CLOSED)?;
         Ok(counts_of(accepted, accepted, 0))

@@ -21,6 +21,9 @@ pub(crate) const CONNACK: [u8; 14] = *b"\x20\x0C\x00\x00\x09\x24\x01\x25\x00\x27
 
 pub(crate) const RESUMED: [u8; 14] = *b"\x20\x0C\x01\x00\x09\x24\x01\x25\x00\x27\x00\x01\x00\x00";
 
+/// The CONNACK that refuses a client, since the broker is busy.
+pub(crate) const SERVER_BUSY: [u8; 5] = *b"\x20\x03\x00\x89\x00";
+
 pub(crate) const SUBACK: [u8; 6] = *b"\x90\x04\x00\x01\x00\x01";
 
 pub(crate) const PUBACK: [u8; 4] = *b"\x40\x02\x00\x07";
