@@ -172,6 +172,7 @@ module _ {S P : Type 0} (call : S → SupplyCall P → S → Type 0) where
         behind old enters.0 new (one old enters.0 _ enters.2 tt refl refl refl refl) (lent enters.1 enters.0 new slot code membership enters.3)
     entered (Err refusal.NoSlot) old new share code membership enters = becomes (ap place_in enters.2) (one old new _ enters.0 tt refl refl refl refl)
     entered (Err refusal.Memory) old new share code membership enters = absurd enters
+    entered (Err refusal.NotDeclared) old new share code membership enters = becomes (ap place_in enters.2) (one old new _ enters.0 tt refl refl refl refl)
 
     -- who has a place keeps it
     stays_at : (was : Membership P) (found : Option ℕ) (place : P) (code : ℕ) (membership : Membership P) → place_in was ≡ place ∷ [] → StaysAs call slot_of place found was code membership

@@ -34,6 +34,12 @@ slot_had x e = bound_or_not x refusal.Memory e
 none_had : ◌≢◌ {A = Result ℕ BindRefusal} (Err refusal.NoSlot) (Err refusal.Memory)
 none_had e = cc
 
+undeclared_had : ◌≢◌ {A = Result ℕ BindRefusal} (Err refusal.NotDeclared) (Err refusal.Memory)
+undeclared_had e = cc
+
+none_or_undeclared : ◌≢◌ {A = Result ℕ BindRefusal} (Err refusal.NoSlot) (Err refusal.NotDeclared)
+none_or_undeclared e = cc
+
 -- a code and a membership are one
 abbrev AreOne : {P : Type 0} → ℕ → ℕ → Membership P → Membership P → Type 0
 AreOne c d m n = (c ≡ d) × (m ≡ n)
@@ -74,6 +80,16 @@ module _ {S P : Type 0} (call : S → SupplyCall P → S → Type 0) (AreAlike :
       absurd (bound_or_not y refusal.NoSlot (sym (calls.bound call AreAlike answers a a' b k.0 share (Err refusal.NoSlot) (Ok y) alike none_had (slot_had y) h.0 k.2).0))
   entered (Err refusal.NoSlot) (Err refusal.NoSlot) a a' b b' share c d m n alike h k =
       ((h.1 ∙ sym k.1, h.2 ∙ sym k.2), (calls.bound call AreAlike answers a a' b b' share (Err refusal.NoSlot) (Err refusal.NoSlot) alike none_had none_had h.0 k.0).1)
+  entered (Ok x) (Err refusal.NotDeclared) a a' b b' share c d m n alike h k =
+      absurd (bound_or_not x refusal.NotDeclared (calls.bound call AreAlike answers a h.0 b b' share (Ok x) (Err refusal.NotDeclared) alike (slot_had x) undeclared_had h.2 k.0).0)
+  entered (Err refusal.NotDeclared) (Ok y) a a' b b' share c d m n alike h k =
+      absurd (bound_or_not y refusal.NotDeclared (sym (calls.bound call AreAlike answers a a' b k.0 share (Err refusal.NotDeclared) (Ok y) alike undeclared_had (slot_had y) h.0 k.2).0))
+  entered (Err refusal.NotDeclared) (Err refusal.NotDeclared) a a' b b' share c d m n alike h k =
+      ((h.1 ∙ sym k.1, h.2 ∙ sym k.2), (calls.bound call AreAlike answers a a' b b' share (Err refusal.NotDeclared) (Err refusal.NotDeclared) alike undeclared_had undeclared_had h.0 k.0).1)
+  entered (Err refusal.NoSlot) (Err refusal.NotDeclared) a a' b b' share c d m n alike h k =
+      absurd (none_or_undeclared (calls.bound call AreAlike answers a a' b b' share (Err refusal.NoSlot) (Err refusal.NotDeclared) alike none_had undeclared_had h.0 k.0).0)
+  entered (Err refusal.NotDeclared) (Err refusal.NoSlot) a a' b b' share c d m n alike h k =
+      absurd (none_or_undeclared (sym (calls.bound call AreAlike answers a a' b b' share (Err refusal.NotDeclared) (Err refusal.NoSlot) alike undeclared_had none_had h.0 k.0).0))
   entered (Err refusal.Memory) y a a' b b' share c d m n alike h k = absurd h
   entered x (Err refusal.Memory) a a' b b' share c d m n alike h k = absurd k
 

@@ -15,7 +15,7 @@ pub enum Answer {
 }
 
 /// How many answers there are.
-const ANSWER_COUNT: usize = 24;
+const ANSWER_COUNT: usize = 25;
 
 /// How many numbers count them: one for each, and the last for any other.
 const PLACES: usize = ANSWER_COUNT + 1;
@@ -27,6 +27,7 @@ const ANSWERS: [Answer; ANSWER_COUNT] = [
     Answer::Puback(ReasonCode::QUOTA_EXCEEDED),
     Answer::Suback(ReasonCode::GRANTED_QOS_1),
     Answer::Suback(ReasonCode::IMPLEMENTATION_SPECIFIC_ERROR),
+    Answer::Suback(ReasonCode::NOT_AUTHORIZED),
     Answer::Suback(ReasonCode::TOPIC_FILTER_INVALID),
     Answer::Suback(ReasonCode::QUOTA_EXCEEDED),
     Answer::Connack(ReasonCode::SUCCESS),

@@ -29,11 +29,12 @@ module _ {S P : Type 0} (call : S → SupplyCall P → S → Type 0) (slot_of : 
   IsLent old slot None code membership new = call old (LendPlace slot None) new × (code ≡ 0x97) × (membership ≡ NotMember)
   IsLent old slot (Some place) code membership new = call old (LendPlace slot (Some place)) new × (code ≡ 1) × (membership ≡ Member place) × (slot_of place ≡ slot)
 
-  -- who is no member is bound to the share's group, if there is a slot for it: else 97
+  -- who is no member is bound to the share's group, if there is a slot for it: else 97; and 87 where the share is not declared, and has to be (3.9.3)
   abbrev pub EntersAs : S → Share → Result ℕ BindRefusal → ℕ → Membership P → S → Type 0
   EntersAs old share (Ok slot) code membership new = (mid : S) × (lent : Option P) × call old (Bind share (Ok slot)) mid × IsLent mid slot lent code membership new
   EntersAs old share (Err refusal.NoSlot) code membership new = call old (Bind share (Err refusal.NoSlot)) new × (code ≡ 0x97) × (membership ≡ NotMember)
   EntersAs old share (Err refusal.Memory) code membership new = ⊥
+  EntersAs old share (Err refusal.NotDeclared) code membership new = call old (Bind share (Err refusal.NotDeclared)) new × (code ≡ 0x87) × (membership ≡ NotMember)
 
   -- whoever has a place in this very group stays, and is a member also where he was leaving; who has one in another is refused by 97
   abbrev pub StaysAs : P → Option ℕ → Membership P → ℕ → Membership P → Type 0

@@ -189,6 +189,7 @@ fn enter<P: HoldingPlace, S: Supply<P>>(
         },
         Err(BindRefusal::NoSlot) => (Membership::NotMember, Ok(ReasonCode::QUOTA_EXCEEDED)),
         Err(BindRefusal::Memory) => (Membership::NotMember, Err(NoMemory)),
+        Err(BindRefusal::NotDeclared) => (Membership::NotMember, Ok(ReasonCode::NOT_AUTHORIZED)),
     }
 }
 

@@ -53,6 +53,9 @@ pub enum BindRefusal {
     /// 206: an allocation failed.
     #[error("out of memory")]
     Memory,
+    /// 207: only shares that were declared have a group, and this is none of them.
+    #[error("the share is not declared")]
+    NotDeclared,
 }
 
 /// Why a group does not accept a message. Nothing has changed then.
@@ -187,7 +190,7 @@ pub trait Supply<P: HoldingPlace> {
         ensures called { call self.old (TakePlace place) self.new }
         ensures visiting { visiting self.new ≡ visiting self.old };
 
-    /// The slot of the share's group: the one that is there, or the least free one.
+    /// The slot of the share's group: the one that is there, or the least free one, where shares need not be declared.
     fn bind(&mut self, share: Share) -> Result<u8, BindRefusal>
         ensures called { call self.old (Bind share result) self.new }
         ensures visiting { visiting self.new ≡ visiting self.old };

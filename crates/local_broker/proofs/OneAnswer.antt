@@ -61,6 +61,9 @@ one_bind old new new' share (Ok a) (Err bind.NoSlot) had also (inr h) k = absurd
 one_bind old new new' share (Err bind.NoSlot) (Ok b) had also h (inl k) = absurd (none_some b (sym h.0 ∙ k.0))
 one_bind old new new' share (Err bind.NoSlot) (Ok b) had also h (inr k) = absurd (let less = k.2 in let all = h.2 in omega arith)
 one_bind old new new' share (Err bind.NoSlot) (Err bind.NoSlot) had also h k = (refl, h.1 ∙ sym k.1)
+one_bind old new new' share (Err bind.NotDeclared) y had also h k = absurd h
+one_bind old new new' share (Ok a) (Err bind.NotDeclared) had also h k = absurd k
+one_bind old new new' share (Err bind.NoSlot) (Err bind.NotDeclared) had also h k = absurd k
 one_bind old new new' share (Err bind.Memory) y had also h k = absurd (had refl)
 one_bind old new new' share x (Err bind.Memory) had also h k = absurd (also refl)
 

@@ -46,11 +46,12 @@ pub record AsksGroup (old new : Broker) : Type 0 where
   pub desk : new.desk ≡ old.desk
   pub routes : new.routes ≡ old.routes
 
--- a share is bound: 205 and 206 as the routes have them
+-- a share is bound: 205 and 206 as the routes have them; none has to be declared
 abbrev pub Binds : List Share → Share → Result ℕ BindRefusal → List Share → Type 0
 Binds old share (Ok slot) new = BindAnswers old share (Ok slot) new
 Binds old share (Err bind.NoSlot) new = BindAnswers old share (Err topic.NoSlot) new
 Binds old share (Err bind.Memory) new = BindAnswers old share (Err topic.Memory) new
+Binds old share (Err bind.NotDeclared) new = ⊥
 
 -- a connection's port has its number: one from 64 on has none, as if its life were spent. There is no group from slot 8 on, as if it
 -- were closed

@@ -162,6 +162,7 @@ entered (Ok slot) old new share code membership enters =
 entered (Err refusal.NoSlot) old new share code membership enters =
     one (Bind share (Err refusal.NoSlot)) old new (λ stamp spends. spends) refl tt enters.0 (same_rows old new (ap (λ d. d.rows) enters.0.1.desk))
 entered (Err refusal.Memory) old new share code membership enters = absurd enters
+entered (Err refusal.NotDeclared) old new share code membership enters = absurd enters.0.0
 
 found : (share : Share) (answer : Option ℕ) (old new : Broker) → Calls old (Find share answer) new → Goes [] old new
 found share answer old new does = one (Find share answer) old new (λ stamp spends. spends) refl tt does (same_rows old new (ap (λ b. b.desk.rows) does.1))

@@ -80,6 +80,7 @@ entered : (bound : Result ℕ BindRefusal) (old new : Broker) (share : Share) (c
 entered (Ok slot) old new share code membership refused does = lent does.1 does.0 new slot code membership refused does.3
 entered (Err refusal.NoSlot) old new share code membership refused does = no_member membership NotMember does.2 tt
 entered (Err refusal.Memory) old new share code membership refused does = absurd does
+entered (Err refusal.NotDeclared) old new share code membership refused does = no_member membership NotMember does.2 tt
 
 joined : (membership membership' : Membership GroupPlace) (old new : Broker) (share : Share) (code : ℕ) → IsNoMember membership → code ≢ 0x01
     → JoinsShare Calls slot_of old membership share code membership' new → IsNoMember membership'

@@ -41,6 +41,8 @@ impl ReasonCode {
 
     pub const CLIENT_IDENTIFIER_NOT_VALID: ReasonCode = ReasonCode { code: 0x85 };
 
+    pub const NOT_AUTHORIZED: ReasonCode = ReasonCode { code: 0x87 };
+
     pub const SERVER_BUSY: ReasonCode = ReasonCode { code: 0x89 };
 
     pub const SERVER_SHUTTING_DOWN: ReasonCode = ReasonCode { code: 0x8B };

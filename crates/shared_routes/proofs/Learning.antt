@@ -6,7 +6,8 @@ use Rattle.std.proofs.lemmas.List.{append_assoc, append-nil, map-set, length-app
 use Rattle.once_cell.specs.Once.{Agrees}
 use Rattle.mqtt_topic.specs.Names.{Share}
 use Rattle.mqtt_topic.specs.Routes.{slot_of}
-use Rattle.shared_routes.specs.Cells.{CellState, unknown, names_of, first_of, known_of}
+use Rattle.shared_routes.specs.declared.new_shares.NewShares.{NewShares}
+use Rattle.shared_routes.specs.Cells.{CellState, RoutesId, unknown, names_of, first_of, known_of}
 use Rattle.shared_routes.specs.Known.{KnownState, AreFirst, Learns, PublishesTo, IsBound, IsBoundBehind}
 use Rattle.shared_routes.proofs.Told.{first_all, first_first, first_few, first_kept, first_known, first_more, first_end, first_whole, names_same, next_same}
 
@@ -22,8 +23,8 @@ learns_both old between new some more one other = record {
   kept = first_first old.told between.told new.told one.kept other.kept;
 }
 
-abbrev pub state_of : List CellState → List Share → KnownState
-state_of cells shares = record { table = names_of cells; shares = shares; told = known_of cells }
+abbrev pub state_of : NewShares → List CellState → List Share → KnownState
+state_of kind cells shares = record { table = record { cells = names_of cells; new_shares = kind }; shares = shares; told = known_of cells }
 
 at_share : (cells : List CellState) (slot : ℕ) (old : CellState) → old ≡ get_or cells slot old → old.share ≡ get_or (map (λ (cell : CellState). cell.share) cells) slot old.share
 at_share cells slot old is = ap (λ (one : CellState). one.share) is ∙ sym (get_or-map (λ (cell : CellState). cell.share) cells slot old)
@@ -64,21 +65,21 @@ told_all cells shares all first =
     (omega (arith, all, first_few (map (λ (cell : CellState). cell.share) cells), length-map cells (λ (cell : CellState). cell.share)))
 
 -- a worker is told of the share of a cell, after those of the cells before it
-pub is_told_next : (cells : List CellState) (shares some : List Share) (slot : ℕ) (old new : CellState) (share : Share) → slot ≡ length some → slot < length cells
+pub is_told_next : (kind : NewShares) (cells : List CellState) (shares some : List Share) (slot : ℕ) (old new : CellState) (share : Share) → slot ≡ length some → slot < length cells
     → old ≡ get_or cells slot old → new.name ≡ old.name → new.share ≡ Some share → Agrees old.share share → AreFirst some (known_of cells)
-    → PublishesTo (state_of cells shares) (some ++ share ∷ []) (state_of (set cells slot new) shares)
-is_told_next cells shares some slot old new share next room is same knows agrees first = record {
-  same = ap (λ (names : List ℕ). record { table = names; shares = shares; told = known_of (set cells slot new) }) (names_same cells slot old new is same);
+    → PublishesTo (state_of kind cells shares) (some ++ share ∷ []) (state_of kind (set cells slot new) shares)
+is_told_next kind cells shares some slot old new share next room is same knows agrees first = record {
+  same = ap (λ (names : List ℕ). record { table = record { cells = names; new_shares = kind }; shares = shares; told = known_of (set cells slot new) }) (names_same cells slot old new is same);
   kept = told_kept cells slot old new share is knows agrees;
   told = told_more cells some slot new share next room knows first;
 }
 
 -- it sees the share of the next cell
-pub learns_next : (cells : List CellState) (shares shares' : List Share) (slot : ℕ) (old new : CellState) (share : Share)
+pub learns_next : (kind : NewShares) (cells : List CellState) (shares shares' : List Share) (slot : ℕ) (old new : CellState) (share : Share)
     → old ≡ get_or cells slot old → new.name ≡ old.name → new.share ≡ Some share → Agrees old.share share → shares' ≡ shares ++ share ∷ []
-    → Learns (state_of cells shares) (share ∷ []) (state_of (set cells slot new) shares')
-learns_next cells shares shares' slot old new share is same knows agrees becomes = record {
-  table = names_same cells slot old new is same;
+    → Learns (state_of kind cells shares) (share ∷ []) (state_of kind (set cells slot new) shares')
+learns_next kind cells shares shares' slot old new share is same knows agrees becomes = record {
+  table = ap (λ (names : List ℕ). record { cells = names; new_shares = kind }) (names_same cells slot old new is same);
   shares = becomes;
   kept = told_kept cells slot old new share is knows agrees;
 }
@@ -142,11 +143,11 @@ slot_name cells others slot mine other table is is' below below' =
     name_at others slot other is' below' ∙ ap (λ (names : List ℕ). get_or names slot 0) table ∙ sym (name_at cells slot mine is below)
 
 -- another worker, which was told of the shares before a slot, is told of that of the slot by a note that knows it
-pub told_slot : (cells others : List CellState) (shares seen : List Share) (slot : ℕ) (mine old new : CellState) → mine ≡ get_or cells slot mine → old ≡ get_or others slot old
+pub told_slot : (kind : NewShares) (cells others : List CellState) (shares seen : List Share) (slot : ℕ) (mine old new : CellState) → mine ≡ get_or cells slot mine → old ≡ get_or others slot old
     → new ≡ mine → names_of others ≡ names_of cells → IfSome mine.share (Agrees old.share) → slot < length shares → slot < length others
     → AreFirst shares (known_of cells) → AreFirst (take slot shares) (known_of others)
-    → PublishesTo (state_of others seen) (take (slot + 1) shares) (state_of (set others slot new) seen)
-told_slot cells others shares seen slot mine old new is is' becomes table agrees below room first before =
+    → PublishesTo (state_of kind others seen) (take (slot + 1) shares) (state_of kind (set others slot new) seen)
+told_slot kind cells others shares seen slot mine old new is is' becomes table agrees below room first before =
     let none : Share = record { text = []; name = []; filter = [] } in
     let share : Share = get_or shares slot none in
     let known : List (Option Share) = map (λ (cell : CellState). cell.share) cells in
@@ -158,7 +159,7 @@ told_slot cells others shares seen slot mine old new is is' becomes table agrees
     ap (λ (cell : CellState). cell.name) becomes
     ∙ sym (slot_name cells others slot mine old table is is' (omega (arith, within, length-map cells (λ (cell : CellState). cell.share))) room) in
     rw (take_more shares slot none below)
-    (is_told_next others seen (take slot shares) slot old new share (sym (length-take-le slot shares (omega (arith, below)))) room is' same
+    (is_told_next kind others seen (take slot shares) slot old new share (sym (length-take-le slot shares (omega (arith, below)))) room is' same
     (ap (λ (cell : CellState). cell.share) becomes ∙ knows) (subst (λ (note : Option Share). IfSome note (Agrees old.share)) knows agrees) before)
 
 names_unknown : (names : List ℕ) → names_of (map unknown names) ≡ names
@@ -170,9 +171,10 @@ pub known_unknown : (names : List ℕ) → known_of (map unknown names) ≡ []
 known_unknown [] = refl
 known_unknown (name ∷ names) = refl
 
-pub state_unknown : (names : List ℕ) (cells : List CellState) (shares : List Share) → cells ≡ map unknown names → shares ≡ []
-    → state_of cells shares ≡ record { table = names; shares = []; told = [] }
-state_unknown names cells shares new none =
-    ap (λ (list : List CellState). state_of list shares) new ∙ ap (state_of (map unknown names)) none
-    ∙ ap (λ (list : List ℕ). record { table = list; shares = []; told = known_of (map unknown names) }) (names_unknown names)
-    ∙ ap (λ (told : List Share). record { table = names; shares = []; told = told }) (known_unknown names)
+pub state_unknown : (table : RoutesId) (kind : NewShares) (cells : List CellState) (shares : List Share) → cells ≡ map unknown table.cells → shares ≡ [] → kind ≡ table.new_shares
+    → state_of kind cells shares ≡ record { table = table; shares = []; told = [] }
+state_unknown table kind cells shares new none same =
+    ap (λ (list : List CellState). state_of kind list shares) new ∙ ap (state_of kind (map unknown table.cells)) none
+    ∙ ap (λ (list : List ℕ). record { table = record { cells = list; new_shares = kind }; shares = []; told = known_of (map unknown table.cells) }) (names_unknown table.cells)
+    ∙ ap (λ (told : List Share). record { table = record { cells = table.cells; new_shares = kind }; shares = []; told = told }) (known_unknown table.cells)
+    ∙ ap (λ (kept : NewShares). record { table = record { cells = table.cells; new_shares = kept }; shares = []; told = [] }) same

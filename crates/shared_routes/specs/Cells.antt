@@ -1,6 +1,12 @@
 -- What a worker knows of the cells of the table.
 use Rattle.std.specs.Prelude.{ℕ, map, List, [], ◌∷◌, Option, Some, None}
 use Rattle.mqtt_topic.specs.Names.{Share}
+use Rattle.shared_routes.specs.declared.new_shares.NewShares.{NewShares}
+
+-- a table: the names of its cells, which no other table has, and what it does with a share that nobody declared
+pub record RoutesId : Type 0 where
+  pub cells : List ℕ
+  pub new_shares : NewShares
 
 -- a cell of this name, and the share that stands in it, where it is known
 pub record CellState : Type 0 where

@@ -4,10 +4,13 @@ use Rattle.mqtt_topic.specs.Names.{Share}
 use Rattle.mqtt_topic.specs.Routes.{most_routes, slot_of}
 use Rattle.shared_routes.specs.declared.error.BindError.{BindError}
 use Rattle.shared_routes.specs.declared.error.BindError.TheVariants as error
+use Rattle.shared_routes.specs.declared.new_shares.NewShares.{NewShares}
+use Rattle.shared_routes.specs.declared.new_shares.NewShares.TheVariants.{Bound, Refused}
+use Rattle.shared_routes.specs.Cells.{RoutesId}
 
--- of a table with cells of these names: what is known, the share of slot n at place n, and what the worker was told of or has seen
+-- of this table: what is known, the share of slot n at place n, and what the worker was told of or has seen
 pub record KnownState : Type 0 where
-  pub table : List ℕ
+  pub table : RoutesId
   pub shares : List Share
   pub told : List Share
 
@@ -52,9 +55,20 @@ abbrev pub IsBoundBehind : KnownState → Share → Option ℕ → KnownState �
 IsBoundBehind old share (Some slot) new = IsBound old share slot new
 IsBoundBehind old share None new = HasNoSlot old share new
 
--- what `bind` answers: the slot that is known; or the least free one, which another may have bound to this share in the meantime; or that there is none;
+-- what `declare` answers: the slot that is known; or the least free one, which another may have bound to this share in the meantime; or that there is none;
 -- or that memory was refused for a share that is not known, and then nothing has changed
-abbrev pub BindAnswers : KnownState → Share → Result ℕ BindError → KnownState → Type 0
-BindAnswers old share (Ok slot) new = ((slot_of share.text old.shares ≡ Some slot) × (new ≡ old)) ⊎ IsBound old share slot new
-BindAnswers old share (Err error.NoSlot) new = HasNoSlot old share new
-BindAnswers old share (Err error.Memory) new = (slot_of share.text old.shares ≡ None) × (new ≡ old)
+abbrev pub DeclareAnswers : KnownState → Share → Result ℕ BindError → KnownState → Type 0
+DeclareAnswers old share (Ok slot) new = ((slot_of share.text old.shares ≡ Some slot) × (new ≡ old)) ⊎ IsBound old share slot new
+DeclareAnswers old share (Err error.NoSlot) new = HasNoSlot old share new
+DeclareAnswers old share (Err error.Memory) new = (slot_of share.text old.shares ≡ None) × (new ≡ old)
+DeclareAnswers old share (Err error.NotDeclared) new = ⊥
+
+-- the slot of a share that is known; one that is not was not declared
+abbrev pub declared_slot : Option ℕ → Result ℕ BindError
+declared_slot (Some slot) = Ok slot
+declared_slot None = Err error.NotDeclared
+
+-- what `bind` answers, by what the table does with a share that nobody declared: as `declare`; or the slot that is known or else a refusal, and then nothing has changed
+abbrev pub BindAnswers : NewShares → KnownState → Share → Result ℕ BindError → KnownState → Type 0
+BindAnswers Bound old share answer new = DeclareAnswers old share answer new
+BindAnswers Refused old share answer new = (answer ≡ declared_slot (slot_of share.text old.shares)) × (new ≡ old)

@@ -2,10 +2,11 @@
 ghost use Rattle.std.specs.Prelude.{◌≡◌, ◌<◌, ◌≤◌, ◌+◌, ◌∷◌, ◌++◌, [], true, false, bytes_eq, length, map, take, slice_get, position, All, Some, None, IfOk, IfSome, MatchOption, MatchResult};
 ghost use Rattle.mqtt_topic.specs.Names.{Share as share_type};
 ghost use Rattle.mqtt_topic.specs.Routes.{slot_of, routed, byte_of, sets_of, places_of};
-ghost use Rattle.shared_routes.specs.Known.{AreFirst, Learns, Grows, PublishesTo, IsBoundBehind, BindAnswers};
+ghost use Rattle.shared_routes.specs.Known.{AreFirst, Learns, Grows, PublishesTo, IsBoundBehind, BindAnswers, DeclareAnswers};
 
 use crate::cell::KnownCell;
 use crate::error::BindError;
+use crate::new_shares::NewShares;
 use crate::table::{MOST_ROUTES, SharedRoutes};
 use mqtt_topic::{Share, Slots, TopicName};
 use std::alloc::{AllocError, Global};
@@ -19,6 +20,7 @@ use std::marker::Model;
 pub struct KnownRoutes<'a> {
     cells: Vec<KnownCell<'a>>,
     seen: Vec<&'a Share>,
+    new_shares: NewShares,
 }
 
 impl<'a> Model for KnownRoutes<'a> {
@@ -29,7 +31,7 @@ impl<'a> Model for KnownRoutes<'a> {
     ghost Value = { KnownState };
 
     ghost view = { λ known. record {
-      table = names_of known.cells.items;
+      table = record { cells = names_of known.cells.items; new_shares = known.new_shares };
       shares = map (λ share. share.now) known.seen.items;
       told = known_of known.cells.items;
     } };
@@ -43,13 +45,14 @@ impl<'a> KnownRoutes<'a> {
     ///
     /// # Errors
     ///
-    /// Lack of memory. Of the other calls only [`bind`](KnownRoutes::bind) takes any.
+    /// Lack of memory. Of the other calls only [`declare`](KnownRoutes::declare) and [`bind`](KnownRoutes::bind) take any.
     pub fn new(alloc: Global, routes: &'a SharedRoutes) -> Result<KnownRoutes<'a>, AllocError>
         ensures { IfOk result (λ known. known ≡ record { table = routes.now; shares = []; told = [] }) }
     {
         Ok(KnownRoutes {
             cells: routes.cells(alloc)?,
             seen: Vec::with_capacity(alloc, MOST_ROUTES)?,
+            new_shares: routes.new_shares(),
         })
     }
 
@@ -146,14 +149,30 @@ impl<'a> KnownRoutes<'a> {
         self.seen.get(usize::from(slot)).copied()
     }
 
+    /// Binds a share that a client asks for: as [`declare`](KnownRoutes::declare), or, where the table refuses shares that nobody declared, only where it is known.
+    ///
+    /// # Errors
+    ///
+    /// 207 [`BindError::NotDeclared`]: the table refuses it, and nothing has changed. Else those of [`declare`](KnownRoutes::declare).
+    pub fn bind(&mut self, alloc: Global, share: Share) -> Result<u8, BindError>
+        ensures answer { BindAnswers self.old.table.new_shares self.old share result self.new }
+        ensures grows { Grows self.old self.new }
+        ensures small { IfOk result (λ slot. slot < 8) }
+    {
+        match self.new_shares {
+            NewShares::Bound => self.declare(alloc, share),
+            NewShares::Refused => self.find(&share).ok_or(BindError::NotDeclared),
+        }
+    }
+
     /// Binds the share: the slot that it is bound to already, or the least free one. Of two workers that bind it at once the one is given the slot
     /// that the other bound. It never waits. For a share that is not known it takes the memory of a box.
     ///
     /// # Errors
     ///
     /// 205 [`BindError::NoSlot`]: all eight slots are bound to other shares. 206 [`BindError::Memory`]: nothing has changed.
-    pub fn bind(&mut self, alloc: Global, share: Share) -> Result<u8, BindError>
-        ensures answer { BindAnswers self.old share result self.new }
+    pub fn declare(&mut self, alloc: Global, share: Share) -> Result<u8, BindError>
+        ensures answer { DeclareAnswers self.old share result self.new }
         ensures grows { Grows self.old self.new }
         ensures small { IfOk result (λ slot. slot < 8) }
     {

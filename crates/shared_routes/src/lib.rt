@@ -5,7 +5,7 @@
 //! without a look at what other workers write.
 //!
 //! ```
-//! let routes = SharedRoutes::new(alloc);
+//! let routes = SharedRoutes::new(alloc, NewShares::Bound);
 //! let mut known = KnownRoutes::new(alloc, &routes)?;
 //! let slot = known.bind(alloc, share)?; // the slot that the share is bound to, by whomever
 //! known.refresh();
@@ -16,8 +16,10 @@
 mod cell;
 mod error;
 mod known;
+mod new_shares;
 mod table;
 
 pub use error::BindError;
 pub use known::KnownRoutes;
+pub use new_shares::NewShares;
 pub use table::SharedRoutes;

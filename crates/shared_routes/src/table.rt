@@ -3,6 +3,7 @@ ghost use Rattle.std.specs.Prelude.{◌≡◌, length, map, IfOk};
 ghost use Rattle.shared_routes.specs.Cells.{unknown};
 
 use crate::cell::KnownCell;
+use crate::new_shares::NewShares;
 use mqtt_topic::Share;
 use once_cell::race::OnceBox;
 use std::alloc::{AllocError, Global};
@@ -13,25 +14,30 @@ pub(crate) const MOST_ROUTES: usize = 8;
 
 /// Up to eight shares, each bound to a slot from 0 to 7 for good, which threads share by reference.
 ///
-/// Contracts see it as the names of its eight cells, which no other table has.
+/// Contracts see it as a `RoutesId`: the names of its eight cells, which no other table has, and what it does with a share that nobody declared.
 #[derive(Drop)]
 pub struct SharedRoutes {
     cells: [OnceBox<Share>; 8],
+    new_shares: NewShares,
 }
 
 impl Model for SharedRoutes {
-    ghost use Rattle.std.specs.Prelude.{List, ℕ, map};
+    ghost use Rattle.std.specs.Prelude.{map};
     ghost use Rattle.once_cell.specs.Once.{cell_name};
+    ghost use Rattle.shared_routes.specs.Cells.{RoutesId};
 
-    ghost Value = { List ℕ };
+    ghost Value = { RoutesId };
 
-    ghost view = { λ routes. map (λ cell. cell_name cell) routes.cells };
+    ghost view = { λ routes. record { cells = map (λ cell. cell_name cell) routes.cells; new_shares = routes.new_shares } };
 }
 
 impl SharedRoutes {
-    /// A table in which nothing is bound. It takes no memory; each share that is bound takes a box of it.
-    pub fn new(alloc: Global) -> SharedRoutes {
+    /// A table in which nothing is bound, and which does this with a share that nobody declared. It takes no memory; each share that is bound takes a box of it.
+    pub fn new(alloc: Global, new_shares: NewShares) -> SharedRoutes
+        ensures { result.new_shares ≡ new_shares }
+    {
         SharedRoutes {
+            new_shares,
             cells: [
                 OnceBox::new(alloc),
                 OnceBox::new(alloc),
@@ -45,9 +51,16 @@ impl SharedRoutes {
         }
     }
 
+    /// What it does with a share that nobody declared.
+    pub(crate) fn new_shares(&self) -> NewShares
+        ensures { result ≡ self.now.new_shares }
+    {
+        self.new_shares
+    }
+
     /// Its eight cells, to a worker that knows nothing of them.
     pub(crate) fn cells(&self, alloc: Global) -> Result<Vec<KnownCell<'_>>, AllocError>
-        ensures unknown { IfOk result (λ cells. cells.items ≡ map unknown self.now) }
+        ensures unknown { IfOk result (λ cells. cells.items ≡ map unknown self.now.cells) }
         ensures eight { IfOk result (λ cells. length cells.items ≡ 8) }
     {
         self.cells

@@ -26,7 +26,8 @@ use Rattle.group_queue.specs.Places.{PlaceState, GiveBackAnswers, TakeAnswers, T
 use Rattle.broker_groups.specs.Answers.{in_group, Sights}
 use Rattle.broker_groups.specs.Offering.{OffersTo}
 use Rattle.broker_groups.specs.Outs.{HasOut}
-use Rattle.shared_routes.specs.Known.{KnownState, BindAnswers, HasNoSlot}
+use Rattle.shared_routes.specs.Known.{KnownState, BindAnswers}
+use Rattle.shared_routes.specs.declared.error.BindError.TheVariants as routes
 use Rattle.shared_supply.specs.declared.wakes.Wakes.{Wakes}
 use Rattle.shared_supply.specs.Waking.{asking_back, freeing, one_more_if, one_taken_if, one_fewer_if}
 use Rattle.shared_supply.specs.Workers.{Worker}
@@ -71,11 +72,12 @@ HandsIn old call new = (back : Option (Session Held PlaceState)) × AsksDesk old
 abbrev pub HandsInPlace : Worker → PlaceState → Worker → Type 0
 HandsInPlace old place new = (back : Option PlaceState) × AsksDesk old (desk.TakePlace place back) new
 
--- a share is bound: 205 and 206 as the routes have them
+-- a share is bound: 205, 206 and 207 as the routes have them
 abbrev pub Binds : KnownState → Share → Result ℕ BindRefusal → KnownState → Type 0
-Binds old share (Ok slot) new = BindAnswers old share (Ok slot) new
-Binds old share (Err bind.NoSlot) new = HasNoSlot old share new
-Binds old share (Err bind.Memory) new = (slot_of share.text old.shares ≡ None) × (new ≡ old)
+Binds old share (Ok slot) new = BindAnswers old.table.new_shares old share (Ok slot) new
+Binds old share (Err bind.NoSlot) new = BindAnswers old.table.new_shares old share (Err routes.NoSlot) new
+Binds old share (Err bind.Memory) new = BindAnswers old.table.new_shares old share (Err routes.Memory) new
+Binds old share (Err bind.NotDeclared) new = BindAnswers old.table.new_shares old share (Err routes.NotDeclared) new
 
 module _ (group : ℕ → GroupId) (seen : Sights) where
   -- a worker that drains refuses a message as a closed broker does, and its ports are as they were; else the message is offered to the group of this slot

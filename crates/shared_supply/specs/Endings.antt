@@ -7,6 +7,7 @@ use Rattle.session_desk.specs.Everything.{HasAll}
 use Rattle.session_desk.specs.Calls.{Call}
 use Rattle.shared_desk.specs.Books.{IsLawful}
 use Rattle.shared_desk.specs.Histories.{Leads}
+use Rattle.shared_routes.specs.Cells.{RoutesId}
 use Rattle.group_queue.specs.declared.finish.Unfinished.{Unfinished}
 use Rattle.group_queue.specs.Ports.{GroupId, PortState}
 use Rattle.group_queue.specs.Places.{PlaceState}
@@ -39,6 +40,6 @@ abbrev pub IsEnded : {W : Type 0} → (group : ℕ → GroupId) (calls : List (C
 IsEnded group calls ports answers strangers = (places : List PlaceState) × (held : List Held) × IsEndedWith group calls ports places held answers strangers
 
 -- where an allocation failed, all that was given comes back: the ports, the routes, and the desk that these calls led to, or all that it had; the groups are the broker's, by their type
-abbrev pub IsLeft : {B S : Type 0} → List (Call Held PlaceState) → List ℕ → List (List PortState) → StillOpen B S → Type 0
+abbrev pub IsLeft : {B S : Type 0} → List (Call Held PlaceState) → RoutesId → List (List PortState) → StillOpen B S → Type 0
 IsLeft calls routes ports (Desk desk groups back left) = IsLedTo calls desk × (back ≡ routes) × (left.items ≡ ports)
 IsLeft calls routes ports (Groups unended back) = IsAllBehind calls unended.places.items unended.held.items × (back ≡ routes) × (unended.ports.items ≡ ports)

@@ -165,6 +165,7 @@ impl<'a, 'g, B: Broker, N: HistoryName, R: Wait> Supply<BrokerPlace<B>>
             Ok(slot) => Ok(slot),
             Err(BindError::NoSlot) => Err(BindRefusal::NoSlot),
             Err(BindError::Memory) => Err(BindRefusal::Memory),
+            Err(BindError::NotDeclared) => Err(BindRefusal::NotDeclared),
         }
     }
 

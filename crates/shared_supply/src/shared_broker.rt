@@ -13,7 +13,7 @@ use std::marker::Model;
 
 /// The gate, the groups, the desk and the routes of a broker, which its workers share by reference.
 ///
-/// Contracts see it as the names of its routes' cells.
+/// Contracts see it as its table of routes.
 pub struct SharedBroker<'g, B: Broker, N: HistoryName> {
     pub(crate) gate: &'g Gate,
     pub(crate) groups: BrokerGroups<'g, B>,
@@ -22,9 +22,10 @@ pub struct SharedBroker<'g, B: Broker, N: HistoryName> {
 }
 
 impl<'g, B: Broker, N: HistoryName> Model for SharedBroker<'g, B, N> {
-    ghost use Rattle.std.specs.Prelude.{◌≡◌, List, ℕ};
+    ghost use Rattle.std.specs.Prelude.{◌≡◌};
+    ghost use Rattle.shared_routes.specs.Cells.{RoutesId};
 
-    ghost Value = { List ℕ };
+    ghost Value = { RoutesId };
 
     ghost view = { λ h. h.routes };
 

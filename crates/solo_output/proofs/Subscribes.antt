@@ -179,6 +179,7 @@ module _ (solo : SoloState) (session : Session Held GroupPlace) (old : Broker) (
     enters share (Err refusal.NoSlot) code membership new ((answer, asks), is, same) =
         enters_none share code membership new answer.0 answer.2 is same (λ i. record { desk = asks.desk i; routes = answer.1 i; groups = asks.groups i })
     enters share (Err refusal.Memory) code membership new does = absurd does
+    enters share (Err refusal.NotDeclared) code membership new does = absurd does.0.0
 
   -- ---- whoever has a place
   module _ (slot : ℕ) (leaving : Membership ℕ) (is : solo.membership ≡ leaving) (desk : ShowsDesk (Member slot) old.desk) (entries : (at : ℕ) → entries_at (Member slot) at session.window.owed ≡ entries_at leaving at session.window.owed) where

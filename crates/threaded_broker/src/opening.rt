@@ -14,7 +14,7 @@ use conn_supply::NoMemory;
 use gate_word::{Gate, GateSeat};
 use group_queue::Nobody;
 use shared_desk::{DeskCaller, OpenedDesk, SharedDesk};
-use shared_routes::SharedRoutes;
+use shared_routes::{NewShares, SharedRoutes};
 use shared_supply::{SharedBroker, StillOpen};
 use std::alloc::Global;
 use std::marker::Model;
@@ -52,7 +52,7 @@ impl<'g, B: Broker, N: HistoryName> Model for OpenBroker<'g, B, N> {
 
 impl<'g, B: Broker<Seen = Nobody>, N: HistoryName> OpenBroker<'g, B, N> {
     /// Opens a broker over this gate with so many workers: names the groups and the desk that were opened for it, gives the desk all places, and each worker a seat, a port
-    /// of each group, and a caller of the desk. Some seats are left, for those who shut the gate.
+    /// of each group, and a caller of the desk. No share is bound; what becomes of one that is not declared is said here. Some seats are left, for those who shut the gate.
     ///
     /// # Errors
     ///
@@ -64,6 +64,7 @@ impl<'g, B: Broker<Seen = Nobody>, N: HistoryName> OpenBroker<'g, B, N> {
         seats: &mut Vec<GateSeat>,
         opened: Opened<'g>,
         desk: OpenedDesk<BrokerPlace<B>>,
+        new_shares: NewShares,
         workers: u8,
     ) -> Result<OpenBroker<'g, B, N>, NoMemory>
         requires gate { gate.now ≡ B.gate }
@@ -97,7 +98,8 @@ impl<'g, B: Broker<Seen = Nobody>, N: HistoryName> OpenBroker<'g, B, N> {
         let (desk, mut caller) = desk.name::<N>();
         desk.take_places(rt, &mut caller, places);
         let handles = take_ports(gate, seats, &desk, &mut caller, ports, handles);
-        let shared_broker = SharedBroker::new(gate, groups, desk, SharedRoutes::new(alloc));
+        let routes = SharedRoutes::new(alloc, new_shares);
+        let shared_broker = SharedBroker::new(gate, groups, desk, routes);
         Ok(OpenBroker {
             shared_broker,
             handles,

@@ -10,7 +10,7 @@ use mqtt_topic::Share;
 use shared_routes::{BindError, KnownRoutes};
 use std::alloc::Global;
 
-/// Binds shares, each to the least slot that is free; where none is, those that are left are not bound.
+/// Declares shares: binds each to the least slot that is free; where none is, those that are left are not bound.
 pub(crate) fn bind_all(
     alloc: Global,
     known: &mut KnownRoutes<'_>,
@@ -29,15 +29,16 @@ pub(crate) fn bind_all(
     }
 }
 
-/// Binds a share, where a slot is free.
+/// Declares a share, where a slot is free.
 fn bind(alloc: Global, known: &mut KnownRoutes<'_>, share: Share) -> Result<(), NoMemory>
     ensures grows { Grows known.old known.new }
     ensures bound { OnOk result (IsBoundIn known.new.shares share) }
 {
-    match known.bind(alloc, share) {
+    match known.declare(alloc, share) {
         Ok(_) => Ok(()),
         Err(BindError::NoSlot) => Ok(()),
         Err(BindError::Memory) => Err(NoMemory),
+        Err(BindError::NotDeclared) => unreachable!(),
     }
 }
 

@@ -22,7 +22,12 @@ use Rattle.conn_service.specs.Acts.{Act, Enters, Leaves as Left, Asks, Reads, Wr
 use Rattle.conn_service.specs.Lives.{Does, DoesAll}
 use Rattle.conn_service.specs.Services.{ServiceState}
 use Rattle.conn_service.specs.Visits.{Stand, Outside, Behind, Treads, Walks}
-use Rattle.shared_routes.specs.Known.{KnownState, BindAnswers}
+use Rattle.shared_routes.specs.Cells.{RoutesId}
+use Rattle.shared_routes.specs.Known.{KnownState, BindAnswers, DeclareAnswers}
+use Rattle.shared_routes.specs.declared.error.BindError.{BindError}
+use Rattle.shared_routes.specs.declared.error.BindError.TheVariants as routes
+use Rattle.shared_routes.specs.declared.new_shares.NewShares.{NewShares}
+use Rattle.shared_routes.specs.declared.new_shares.NewShares.TheVariants.{Bound, Refused}
 use Rattle.shared_supply.specs.Calls.{AsksDesk, Binds, Calls, missing, waking}
 use Rattle.shared_supply.specs.Waking.{asking_back, freeing}
 use Rattle.shared_supply.specs.Workers.{Worker, Begins, Leaves, is_visiting}
@@ -31,7 +36,7 @@ use Rattle.worker_connections.specs.Cells.{InCell, Turns}
 use Rattle.worker_connections.proofs.Publishing.{no_others}
 
 -- the table of the routes that a worker knows, and its parts of the right to call the desk
-abbrev pub ties : Worker → List ℕ × ℕ
+abbrev pub ties : Worker → RoutesId × ℕ
 ties worker = (worker.known.table, worker.desk.parts)
 
 both : {A C : Type 0} {a b : A} {c d : C} → a ≡ b → c ≡ d → ◌≡◌ {A = A × C} (a, c) (b, d)
@@ -41,14 +46,22 @@ both p q = λ i. (p i, q i)
 asked : (old new : Worker) (call : Call Held PlaceState) → AsksDesk old call new → ties new ≡ ties old
 asked old new call is = both (ap (λ (w : Worker). w.known.table) is.1) (ap (λ (c : CallerState (Call Held PlaceState)). c.parts) is.0.is)
 
-answered : (old : KnownState) (share : Share) (slot : ℕ) (new : KnownState) → BindAnswers old share (Ok slot) new → new.table ≡ old.table
-answered old share slot new (inl known) = ap (λ (k : KnownState). k.table) known.1
-answered old share slot new (inr bound) = bound.grown.table
+declared : (old : KnownState) (share : Share) (answer : Result ℕ BindError) (new : KnownState) → DeclareAnswers old share answer new → new.table ≡ old.table
+declared old share (Ok slot) new (inl known) = ap (λ (k : KnownState). k.table) known.1
+declared old share (Ok slot) new (inr bound) = bound.grown.table
+declared old share (Err routes.NoSlot) new is = is.grown.table
+declared old share (Err routes.Memory) new is = ap (λ (k : KnownState). k.table) is.1
+declared old share (Err routes.NotDeclared) new is = absurd is
+
+answered : (new_shares : NewShares) (old : KnownState) (share : Share) (answer : Result ℕ BindError) (new : KnownState) → BindAnswers new_shares old share answer new → new.table ≡ old.table
+answered Bound old share answer new is = declared old share answer new is
+answered Refused old share answer new is = ap (λ (k : KnownState). k.table) is.1
 
 bound_in : (old : KnownState) (share : Share) (answer : Result ℕ BindRefusal) (new : KnownState) → Binds old share answer new → new.table ≡ old.table
-bound_in old share (Ok slot) new is = answered old share slot new is
-bound_in old share (Err bind.NoSlot) new is = is.grown.table
-bound_in old share (Err bind.Memory) new is = ap (λ (k : KnownState). k.table) is.1
+bound_in old share (Ok slot) new is = answered old.table.new_shares old share (Ok slot) new is
+bound_in old share (Err bind.NoSlot) new is = answered old.table.new_shares old share (Err routes.NoSlot) new is
+bound_in old share (Err bind.Memory) new is = answered old.table.new_shares old share (Err routes.Memory) new is
+bound_in old share (Err bind.NotDeclared) new is = answered old.table.new_shares old share (Err routes.NotDeclared) new is
 
 missed_ties : (is_missed : Bool) (worker : Worker) → ties (missing is_missed worker) ≡ ties worker
 missed_ties true worker = refl

@@ -16,6 +16,7 @@ use Rattle.worker_connections.specs.declared.cell_outcome.CellOutcome.TheVariant
 use Rattle.conn_service.specs.declared.served.Direction.{Direction}
 use Rattle.conn_service.specs.declared.served.Round.{Round}
 use Rattle.conn_service.specs.declared.served.Round.TheVariants as rounds
+use Rattle.shared_routes.specs.Cells.{RoutesId}
 use Rattle.shared_supply.specs.Calls.{Calls}
 use Rattle.shared_supply.specs.Waking.{no_wakes}
 use Rattle.shared_supply.specs.Workers.{Worker, Begins, Leaves, is_visiting}
@@ -78,7 +79,7 @@ pub record Ties (T : Type 0) : Type 0 where
   pub first : ℕ
   pub cells : ℕ
   pub channel : ChannelId (ArrivedState T)
-  pub table : List ℕ
+  pub table : RoutesId
   pub parts : ℕ
 
 abbrev pub ties_of : {T : Type 0} → ConnectionsState T → Ties T

@@ -2,6 +2,7 @@
 use Rattle.std.proofs.Common.{◌≡◌, ℕ, suc, ◌+◌, ◌<◌, List, [], ◌∷◌, ◌++◌, length, take, get_or, ap, sym, subst, ◌∙◌, arith}
 use Rattle.std.proofs.Math.Seq.{take-append_seam}
 use Rattle.conn_channel.specs.Ends.{ChannelId}
+use Rattle.shared_routes.specs.Cells.{RoutesId}
 use Rattle.broker_worker.specs.Parts.{AllAt}
 use Rattle.broker_worker.specs.Resting.{WorkerState}
 use Rattle.worker_connections.specs.Arrivals.{ArrivedState}
@@ -27,7 +28,7 @@ module _ {T : Type 0} where
     all_numbered share (place + 1) olds news (omega (arith, same)) (λ i d within. ran (suc i) d (omega (arith, within))) all.1,
   )
 
-  hired_on : (channel : ChannelId (ArrivedState T)) (table : List ℕ) (old new : WorkerState T) → HasRun old new → IsHired channel table old → IsHired channel table new
+  hired_on : (channel : ChannelId (ArrivedState T)) (table : RoutesId) (old new : WorkerState T) → HasRun old new → IsHired channel table old → IsHired channel table new
   hired_on channel table old new ran is = ran.0 ∙ is ∙ ap (hired_by channel table) (sym ran.0)
 
   -- where each has run, all have

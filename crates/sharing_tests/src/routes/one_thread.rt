@@ -5,7 +5,7 @@ use crate::asserting::assert_same;
 use bytes::Bytes;
 use mqtt_packet::Text;
 use mqtt_topic::{Share, Slots, TopicName};
-use shared_routes::{BindError, KnownRoutes, SharedRoutes};
+use shared_routes::{BindError, KnownRoutes, NewShares, SharedRoutes};
 use std::alloc::Global;
 use std::test::Fail;
 
@@ -51,7 +51,7 @@ fn routed(known: &KnownRoutes<'_>, name: &'static str) -> Option<Slots> {
 
 #[test]
 fn what_one_binds_another_learns(rt: HostRuntime) -> Result<(), Fail> {
-    let routes = SharedRoutes::new(rt.alloc());
+    let routes = SharedRoutes::new(rt.alloc(), NewShares::Bound);
     let mut one = KnownRoutes::new(rt.alloc(), &routes)?;
     let mut other = KnownRoutes::new(rt.alloc(), &routes)?;
     for (slot, text) in SHARES.iter().take(8).enumerate() {
@@ -71,7 +71,7 @@ fn what_one_binds_another_learns(rt: HostRuntime) -> Result<(), Fail> {
 
 #[test]
 fn what_it_was_told_of_it_knows(rt: HostRuntime) -> Result<(), Fail> {
-    let routes = SharedRoutes::new(rt.alloc());
+    let routes = SharedRoutes::new(rt.alloc(), NewShares::Bound);
     let mut one = KnownRoutes::new(rt.alloc(), &routes)?;
     let mut other = KnownRoutes::new(rt.alloc(), &routes)?;
     assert_same(&rt, &bound(rt.alloc(), &mut one, SHARES[0]), &Some(Ok(0)));
@@ -87,7 +87,7 @@ fn what_it_was_told_of_it_knows(rt: HostRuntime) -> Result<(), Fail> {
 
 #[test]
 fn a_share_has_one_slot(rt: HostRuntime) -> Result<(), Fail> {
-    let routes = SharedRoutes::new(rt.alloc());
+    let routes = SharedRoutes::new(rt.alloc(), NewShares::Bound);
     let mut one = KnownRoutes::new(rt.alloc(), &routes)?;
     let mut other = KnownRoutes::new(rt.alloc(), &routes)?;
     assert_same(&rt, &bound(rt.alloc(), &mut one, SHARES[3]), &Some(Ok(0)));
@@ -99,7 +99,7 @@ fn a_share_has_one_slot(rt: HostRuntime) -> Result<(), Fail> {
 
 #[test]
 fn the_ninth_share_finds_no_slot(rt: HostRuntime) -> Result<(), Fail> {
-    let routes = SharedRoutes::new(rt.alloc());
+    let routes = SharedRoutes::new(rt.alloc(), NewShares::Bound);
     let mut one = KnownRoutes::new(rt.alloc(), &routes)?;
     let mut other = KnownRoutes::new(rt.alloc(), &routes)?;
     for text in SHARES.iter().take(8) {
@@ -115,10 +115,29 @@ fn the_ninth_share_finds_no_slot(rt: HostRuntime) -> Result<(), Fail> {
 }
 
 #[test]
+fn only_what_is_declared_is_bound(rt: HostRuntime) -> Result<(), Fail> {
+    let routes = SharedRoutes::new(rt.alloc(), NewShares::Refused);
+    let mut one = KnownRoutes::new(rt.alloc(), &routes)?;
+    let mut other = KnownRoutes::new(rt.alloc(), &routes)?;
+    let declared = share(SHARES[0]).ok_or("it is a share")?;
+    assert!(rt; one.declare(rt.alloc(), declared) == Ok(0));
+    other.refresh();
+    assert_same(&rt, &bound(rt.alloc(), &mut other, SHARES[0]), &Some(Ok(0)));
+    assert_same(
+        &rt,
+        &bound(rt.alloc(), &mut other, SHARES[1]),
+        &Some(Err(BindError::NotDeclared)),
+    );
+    assert_same(&rt, &found(&other, SHARES[1]), &None);
+    Ok(())
+}
+
+#[test]
 fn a_refusal_says_why(rt: HostRuntime) -> Result<(), Fail> {
     for (refusal, text, number) in [
         (BindError::NoSlot, "no slot is free", 205),
         (BindError::Memory, "out of memory", 206),
+        (BindError::NotDeclared, "the share is not declared", 207),
     ] {
         let told = format!(in rt.alloc(); "{refusal}")?;
         assert!(rt; told.as_str() == text && refusal.number() == number);

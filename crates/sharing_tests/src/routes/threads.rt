@@ -1,7 +1,7 @@
 //! Two threads bind the same shares at once, in opposite orders, and are given the same slots.
 use crate::asserting::assert_same;
 use crate::routes::one_thread::{SHARES, bound};
-use shared_routes::{KnownRoutes, SharedRoutes};
+use shared_routes::{KnownRoutes, NewShares, SharedRoutes};
 use std::alloc::Global;
 use std::thread::{Threads, join};
 
@@ -17,7 +17,7 @@ fn worker(alloc: Global, routes: &SharedRoutes, is_backwards: bool) -> Option<Kn
 
 /// How many shares the two workers know alike.
 fn alike<R: Threads + Sync>(rt: &R, alloc: Global) -> Option<usize> {
-    let routes = SharedRoutes::new(alloc);
+    let routes = SharedRoutes::new(alloc, NewShares::Bound);
     let (one, other) = join(
         rt,
         || worker(alloc, &routes, false),

@@ -9,7 +9,7 @@ use gate_word::{Gate, GateSeat};
 use group_queue::Nobody;
 use session_desk::Newcomers;
 use shared_desk::{DeskCaller, OpenedDesk, SharedDesk};
-use shared_routes::SharedRoutes;
+use shared_routes::{NewShares, SharedRoutes};
 use shared_supply::SharedBroker;
 use std::alloc::Global;
 use std::marker::Brand;
@@ -131,7 +131,12 @@ pub(crate) fn build<'g, B: Broker<Seen = Nobody>, N: HistoryName, R: Wait>(
     let (desk, mut caller) = desk.name::<N>();
     desk.take_places(rt, &mut caller, places);
     let handles = take_ports(alloc, gate, &mut seats, &desk, &mut caller, ports);
-    let shared_broker = SharedBroker::new(gate, groups, desk, SharedRoutes::new(alloc));
+    let shared_broker = SharedBroker::new(
+        gate,
+        groups,
+        desk,
+        SharedRoutes::new(alloc, NewShares::Bound),
+    );
     Some(Built {
         shared_broker,
         handles,

@@ -8,7 +8,7 @@ pub invariant_of-result : goal.invariant_of-result
 invariant_of-result c = (
   (
     [],
-    ap known_of c.in_ok-cells.ensures.unknown ∙ known_unknown c.args.routes.now
+    ap known_of c.in_ok-cells.ensures.unknown ∙ known_unknown c.args.routes.now.cells
         ∙ sym (ap (λ seen. map (λ share. share.now) seen ++ []) c.in_ok-with_capacity.ensures.items),
   ),
   c.in_ok-cells.ensures.eight,
@@ -18,5 +18,5 @@ invariant_of-result c = (
 
 pub returns : goal.returns
 returns c =
-    state_unknown c.args.routes.now c.in_ok-cells.field-0.items (map (λ share. share.now) c.in_ok-with_capacity.field-0.items) c.in_ok-cells.ensures.unknown
-    (ap (map (λ share. share.now)) c.in_ok-with_capacity.ensures.items)
+    state_unknown c.args.routes.now c.new_shares.result c.in_ok-cells.field-0.items (map (λ share. share.now) c.in_ok-with_capacity.field-0.items) c.in_ok-cells.ensures.unknown
+    (ap (map (λ share. share.now)) c.in_ok-with_capacity.ensures.items) c.new_shares.ensures

@@ -21,8 +21,8 @@ pub returns : goal.returns
 returns c = (
   c.write.ensures.0,
   subst (λ (old : KnownState). PublishesTo old (old.shares ++ c.write.ensures.0 ∷ [])
-      (state_of (set c.self.inside.cells.items c.len-slot.result c.write.new.self) (map (λ share. share.now) c.self.inside.seen.items))) c.self.view_is
-      (is_told_next c.self.inside.cells.items (map (λ share. share.now) c.self.inside.seen.items) (map (λ share. share.now) c.self.inside.seen.items)
+      (state_of c.self.inside.new_shares (set c.self.inside.cells.items c.len-slot.result c.write.new.self) (map (λ share. share.now) c.self.inside.seen.items))) c.self.view_is
+      (is_told_next c.self.inside.new_shares c.self.inside.cells.items (map (λ share. share.now) c.self.inside.seen.items) (map (λ share. share.now) c.self.inside.seen.items)
       c.len-slot.result c.index_mut.result.now c.write.new.self c.write.ensures.0
       (omega (arith, c.len-slot.ensures, length-map c.self.inside.seen.items (λ share. share.now)))
       (omega (arith, c.len-slot.ensures, length-map c.self.inside.seen.items (λ share. share.now), c.requires.room, ap (λ (known : KnownState). length known.shares) c.self.view_is, c.self.invariant.1))

@@ -13,7 +13,7 @@ returns-in_err-share c =
     ap (set c.self.inside.cells.items c.len-slot.result) (c.in_err-share.ensures.1 ∙ c.index_mut.ensures.value)
     ∙ set-get_or c.self.inside.cells.items c.len-slot.result c.index_mut.result.now in
     rw c.from_residual.ensures (
-      ap (λ cells. state_of cells (map (λ share. share.now) c.self.inside.seen.items)) same ∙ c.self.view_is,
+      ap (λ cells. state_of c.self.inside.new_shares cells (map (λ share. share.now) c.self.inside.seen.items)) same ∙ c.self.view_is,
       subst (λ (known : KnownState). known.told ≡ known.shares) c.self.view_is
           (told_end c.self.inside.cells.items (map (λ share. share.now) c.self.inside.seen.items) c.len-slot.result c.index_mut.result.now
           (omega (arith, c.len-slot.ensures, length-map c.self.inside.seen.items (λ share. share.now))) c.index_mut.ensures.value
@@ -36,8 +36,8 @@ invariant_of-self-2 c = (
 
 pub returns : goal.returns
 returns c = (
-  subst (λ (old : KnownState). Learns old (c.in_ok-share.share.now ∷ []) (state_of (set c.self.inside.cells.items c.len-slot.result c.look.new.self) (map (λ share. share.now) c.push_reserved.new.self.items))) c.self.view_is
-      (learns_next c.self.inside.cells.items (map (λ share. share.now) c.self.inside.seen.items) (map (λ share. share.now) c.push_reserved.new.self.items) c.len-slot.result
+  subst (λ (old : KnownState). Learns old (c.in_ok-share.share.now ∷ []) (state_of c.self.inside.new_shares (set c.self.inside.cells.items c.len-slot.result c.look.new.self) (map (λ share. share.now) c.push_reserved.new.self.items))) c.self.view_is
+      (learns_next c.self.inside.new_shares c.self.inside.cells.items (map (λ share. share.now) c.self.inside.seen.items) (map (λ share. share.now) c.push_reserved.new.self.items) c.len-slot.result
       c.index_mut.result.now c.look.new.self c.in_ok-share.share.now
       c.index_mut.ensures.value (ap (λ (cell : CellState). cell.name) c.in_ok-share.ensures.0) (ap (λ (cell : CellState). cell.share) c.in_ok-share.ensures.0)
       c.in_ok-share.ensures.1
