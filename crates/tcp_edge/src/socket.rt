@@ -7,11 +7,9 @@ ghost use Rattle.transport.specs.Streams.{GivesWithin, TakesWithin, after_read, 
 
 use crate::wire::{IoOutcome, Wire};
 use mio::event::Source;
-use mio::net::TcpStream;
 use mio::{Interest, Registry, Token};
 use std::io;
 use std::marker::Model;
-use std::net::SocketAddr;
 use transport::{Counts, Got, Put, Transport};
 
 /// A transport over a stream that never waits. Each read and each write is one call of the stream; what that does not take at once is
@@ -46,17 +44,17 @@ impl<W> Socket<W> {
     }
 
     /// The stream.
+    pub fn wire(&self) -> &W
+        ensures { result.now ≡ self.now.wire }
+    {
+        &self.wire
+    }
+
+    /// The stream, without the socket.
     pub fn into_wire(self) -> W
         ensures { result ≡ self.wire }
     {
         self.wire
-    }
-}
-
-impl Socket<TcpStream> {
-    /// The address of its peer, where the system tells it: one call of the system.
-    pub fn peer(&self) -> Option<SocketAddr> {
-        self.wire.peer_addr().ok()
     }
 }
 

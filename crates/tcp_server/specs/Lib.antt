@@ -1,3 +1,4 @@
+pub mod FirstPackets
 pub mod Lines
 pub mod Reporting
 pub mod Serving

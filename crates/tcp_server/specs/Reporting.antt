@@ -8,7 +8,7 @@ use Rattle.group_queue.specs.Ports.{GroupId}
 use Rattle.group_queue.specs.declared.finish.Unfinished.{Unfinished}
 use Rattle.group_queue.specs.declared.witness.Nobody.{Nobody}
 use Rattle.tcp_edge.specs.Sockets.{SocketState}
-use Rattle.mio.specs.declared.net.stream.TcpStream.{TcpStream}
+use Rattle.tcp_server.specs.declared.client_stream.ClientStream.{ClientStream}
 use Rattle.worker_connections.specs.declared.served.ServedCounts.{ServedCounts}
 use Rattle.worker_connections.specs.PollerCalls.{PollerCall}
 use Rattle.broker_groups.specs.Answers.{all_seen}
@@ -19,7 +19,7 @@ use Rattle.tcp_server.specs.Lines.{lines_of, report_of, EndsBy}
 
 -- a connection on TCP as contracts see it; what came on it and went is not known
 abbrev pub Connection : Type 0
-Connection = SocketState TcpStream
+Connection = SocketState ClientStream
 
 abbrev pub unknown : Connection → Option (List ℕ)
 unknown connection = None

@@ -2,9 +2,9 @@
 ghost use Rattle.std.specs.Prelude.{◌≡◌, None};
 ghost use Rattle.transport.specs.Counting.{ComesNew, MayCome, after_arrival};
 
+use crate::client_stream::ClientStream;
 use crate::lobby::Lobby;
 use metrics::{MetricsServer, MetricsService};
-use mio::net::TcpStream;
 use std::marker::Model;
 use std::rt::Clock as SystemClock;
 use std::sync::Wait;
@@ -57,12 +57,12 @@ impl<'a, R: Wait + SystemClock> BesideMetrics<'a, R> {
     }
 }
 
-impl<'a, R: Wait + SystemClock> Source<Socket<TcpStream>> for BesideMetrics<'a, R> {
+impl<'a, R: Wait + SystemClock> Source<Socket<ClientStream>> for BesideMetrics<'a, R> {
     ghost tally = { λ b. b };
 
     ghost arrived = { λ _. None };
 
-    fn next(&mut self) -> Arrival<Socket<TcpStream>>
+    fn next(&mut self) -> Arrival<Socket<ClientStream>>
         requires { MayCome self.old }
         ensures tally { self.new ≡ after_arrival result self.old }
         ensures new { ComesNew (λ socket. socket.counts) result }

@@ -3,10 +3,13 @@
 //! [`serve_at`] listens at an address and serves until its input ends; then it drains, where it is to do so, closes, and writes the report of each group whose share is bound.
 #![tactic(auto)]
 
+mod addresses;
 mod attending;
 mod beside;
+mod client_stream;
 mod drain;
 mod elapsed;
+mod first_packet;
 mod listeners;
 mod lobby;
 mod logging;
@@ -19,6 +22,7 @@ mod setup;
 mod socket_poller;
 mod watching;
 
+pub use client_stream::ClientStream;
 pub use listeners::{ListenAt, Listeners};
 pub use logging::{BrokerLog, LogPart};
 pub use outcome::{Reported, report_outcome};

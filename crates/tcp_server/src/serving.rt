@@ -9,6 +9,7 @@ ghost use Rattle.tcp_server.specs.Serving.{EndsUnreported, IsServed, IsServedAt,
 ghost use Rattle.gate_word.specs.Seats.{AreSeatsOf};
 ghost use Rattle.broker_groups.specs.Naming.{IsOfBroker};
 
+use crate::addresses::Addresses;
 use crate::attending::attend;
 use crate::beside::Metrics;
 use crate::drain::Drain;
@@ -104,7 +105,7 @@ pub fn serve_with<R: Threads + Wait + Net + SystemClock + Sync, I: Read + Send, 
 {
     let Listeners { source, metrics } = listeners;
     let port = source.port();
-    let lobby = match Lobby::open(rt, alloc, source) {
+    let lobby = match Lobby::open(rt, alloc, source, addresses_of(alloc, settings.per_address)) {
         Ok(lobby) => lobby,
         Err(ReactorError::Memory) => return Err(RunError::Memory),
         Err(_) => return Err(RunError::Network),
@@ -141,6 +142,14 @@ pub fn serve_with<R: Threads + Wait + Net + SystemClock + Sync, I: Read + Send, 
     match write_all(output, &text) {
         Ok(()) => answer_of(end),
         Err(error) => Err(error),
+    }
+}
+
+/// The addresses of connections, where those of each are bounded: 0 is no bound.
+fn addresses_of(alloc: Global, per_address: u32) -> Option<Addresses> {
+    match per_address {
+        0 => None,
+        most => Some(Addresses::new(alloc, most as usize)),
     }
 }
 
@@ -243,6 +252,7 @@ fn live_with<
         &mut seats,
         opened,
         desk,
+        settings.new_shares,
         settings.workers,
     ) else {
         return Err(RunError::Memory);

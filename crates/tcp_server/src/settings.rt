@@ -1,6 +1,7 @@
 //! How a broker on TCP serves.
 use conn_rules::MaxInflight;
 use session_desk::Newcomers;
+use shared_routes::NewShares;
 
 /// How a broker on TCP serves.
 #[derive(Clone, Copy, Debug, PartialEq, Eq)]
@@ -15,4 +16,8 @@ pub struct ServeSettings {
     pub drain: u32,
     /// What it does for a client that has no session, until it drains; then none begins.
     pub newcomers: Newcomers,
+    /// What it does for a client that asks for the group of a share that is none of the groups from the start.
+    pub new_shares: NewShares,
+    /// How many connections an address may have at once; 0 for as many as there are.
+    pub per_address: u32,
 }

@@ -1,6 +1,7 @@
 //! Where the workers of a broker wait.
 ghost use Rattle.std.specs.Prelude.{◌≡◌, length, IfSome};
 
+use crate::client_stream::ClientStream;
 use crate::drain::{Drain, DrainPart};
 use crate::elapsed::Elapsed;
 use crate::logging::{BrokerLog, LogPart};
@@ -9,7 +10,6 @@ use crate::socket_poller::SocketPoller;
 use broker_worker::UnusedPoller;
 use conn_rules::MaxInflight;
 use metrics::SharedCounts;
-use mio::net::TcpStream;
 use std::alloc::Global;
 use std::net::Net;
 use std::rt::Clock as SystemClock;
@@ -19,7 +19,7 @@ use worker_bells::share_of;
 use worker_pool::PoolSetup;
 
 /// A reactor with a clock and an alarm for each worker.
-pub(crate) type SocketSetup<'a, R> = PoolSetup<Socket<TcpStream>, SocketPoller<'a, R>>;
+pub(crate) type SocketSetup<'a, R> = PoolSetup<Socket<ClientStream>, SocketPoller<'a, R>>;
 
 /// What so many workers need, whose clocks begin now, and who drain together. Each puts what it counts into the place of its number, where there is one, and all say what they do to this log. `None` where an allocation fails, or the system refuses.
 pub(crate) fn socket_setup<'a, R: Net + SystemClock>(

@@ -1,11 +1,11 @@
 //! A worker waits at a reactor for its sockets, and looks at the clock of its broker.
 ghost use Rattle.std.specs.Prelude.{◌≡◌, None};
 
+use crate::client_stream::ClientStream;
 use crate::drain::DrainPart;
 use crate::elapsed::Elapsed;
 use crate::logging::LogPart;
 use crate::metering::MetricsPart;
-use mio::net::TcpStream;
 use std::rt::Clock as SystemClock;
 use std::sync::Wait;
 use std::time::Duration;
@@ -51,21 +51,21 @@ impl<'a, R: SystemClock> Crossing for SocketPoller<'a, R> {
     }
 }
 
-impl<'a, R: SystemClock> Poller<Socket<TcpStream>> for SocketPoller<'a, R> {
+impl<'a, R: SystemClock> Poller<Socket<ClientStream>> for SocketPoller<'a, R> {
     type Alarm = Alarm;
 
     ghost poller_calls = { λ _. None };
 
-    fn register(&mut self, transport: &mut Socket<TcpStream>) -> Option<usize> {
+    fn register(&mut self, transport: &mut Socket<ClientStream>) -> Option<usize> {
         self.metrics.count_opened();
         let number = self.reactor.register(transport).ok();
         if self.log.is_on() {
-            self.log.opened(number, transport.peer());
+            self.log.opened(number, transport.wire().peer());
         }
         number
     }
 
-    fn close(&mut self, number: Option<usize>, transport: Socket<TcpStream>) {
+    fn close(&mut self, number: Option<usize>, transport: Socket<ClientStream>) {
         let mut transport = transport;
         if let Some(number) = number {
             if self.reactor.has(number) {
