@@ -106,6 +106,10 @@ one_flag false true same =
 one_keep : (rows : List Row) (a b : ServeOptions) → IsServiceBy rows a → IsServiceBy rows b → a.keep_parked ≡ b.keep_parked
 one_keep rows a b h i = one_flag a.keep_parked b.keep_parked (same_text _ (flag_word a.keep_parked) (flag_word b.keep_parked) h.keep_parked i.keep_parked)
 
+one_declared : (rows : List Row) (a b : ServeOptions) → IsServiceBy rows a → IsServiceBy rows b → a.declared_groups ≡ b.declared_groups
+one_declared rows a b h i =
+    one_flag a.declared_groups b.declared_groups (same_text _ (flag_word a.declared_groups) (flag_word b.declared_groups) h.declared_groups i.declared_groups)
+
 one_until : (rows : List Row) (a b : ServeOptions) → IsServiceBy rows a → IsServiceBy rows b → a.until ≡ b.until
 one_until rows a b h i = one_word a.until b.until (same_text _ (word_of a.until) (word_of b.until) h.until i.until)
 
@@ -123,10 +127,12 @@ one_service rows a b h i =
     let metrics = one_number (codes "metrics") 0 65535 rows a.metrics b.metrics h.metrics i.metrics in
     let log = one_log rows a b h i in
     let keep_parked = one_keep rows a b h i in
+    let declared_groups = one_declared rows a b h i in
+    let per_address = one_number (codes "per-address") 0 65535 rows a.per_address b.per_address h.per_address i.per_address in
     let capacity = one_number (codes "capacity") 1 65536 rows a.setup.capacity b.setup.capacity h.capacity i.capacity in
     let max_inflight = one_number (codes "max-inflight") 1 256 rows a.setup.max_inflight b.setup.max_inflight h.max_inflight i.max_inflight in
     let groups = each_one (pairs_in rows) [] a.setup.groups b.setup.groups h.groups i.groups in
-    (λ i. record { address = address i; port = port i; workers = workers i; until = until i; drain = drain i; metrics = metrics i; log = log i; keep_parked = keep_parked i; setup = made (capacity i) (max_inflight i) (groups i); few = is_prop→PathP (λ j. IsFew (workers j)) (λ j. ×_prop le_prop le_prop) a.few b.few i })
+    (λ i. record { address = address i; port = port i; workers = workers i; until = until i; drain = drain i; metrics = metrics i; log = log i; keep_parked = keep_parked i; declared_groups = declared_groups i; per_address = per_address i; setup = made (capacity i) (max_inflight i) (groups i); few = is_prop→PathP (λ j. IsFew (workers j)) (λ j. ×_prop le_prop le_prop) a.few b.few i })
 
 one_reading : (words : List Text) (a b : Text) (x y : List Row) → AreReadAs words a x → AreReadAs words b y → (a ≡ b) × (y ≡ x)
 one_reading words a b x y h i = same_pair (subcommand_of command_line words) a b x y h.1 i.1

@@ -9,7 +9,7 @@ use Rattle.conn_rules.specs.declared.setup.Setup.{Setup}
 use Rattle.broker_log.specs.declared.level.Level.{Level}
 use Rattle.broker_log.specs.declared.level.Level.TheVariants as levels
 use Rattle.arguments.specs.Groups.{AddsEach, RefusesOne}
-use Rattle.arguments.specs.Options.{address_option, capacity_option, drain_option, group_option, keep_parked_option, log_option, max_inflight_option, metrics_option, port_option, until_option, workers_option, HasNumber, HaveCapacity, HaveMaxInflight, pairs_in}
+use Rattle.arguments.specs.Options.{address_option, capacity_option, declared_groups_option, drain_option, group_option, keep_parked_option, log_option, max_inflight_option, metrics_option, per_address_option, port_option, until_option, workers_option, HasNumber, HaveCapacity, HaveMaxInflight, pairs_in}
 use Rattle.arguments.specs.declared.command.Request.{Request}
 use Rattle.arguments.specs.declared.command.Request.TheVariants.{Solo, Drive, Serve}
 use Rattle.arguments.specs.declared.groups.Refusal.{Refusal}
@@ -23,11 +23,11 @@ use Rattle.arguments.specs.declared.service.ServeUntil.TheVariants.{Stdin, Kille
 abbrev pub command_named : Text → App
 command_named name = with_rule (with_rule (with_rule (new_app name) capacity_option) max_inflight_option) group_option
 
--- the eight options that `serve` has of its own
+-- the ten options that `serve` has of its own
 abbrev pub serve_alone : App
 serve_alone =
-    with_rule (with_rule (with_rule (with_rule (with_rule (with_rule (with_rule (with_rule (new_app (codes "serve")) port_option) address_option) workers_option) until_option) drain_option) metrics_option) log_option)
-    keep_parked_option
+    with_rule (with_rule (with_rule (with_rule (with_rule (with_rule (with_rule (with_rule (with_rule (with_rule (new_app (codes "serve")) port_option) address_option) workers_option) until_option) drain_option) metrics_option) log_option)
+    keep_parked_option) declared_groups_option) per_address_option
 
 -- `serve`, with these before them
 abbrev pub serve_command : App
@@ -60,7 +60,7 @@ level_word levels.Error = codes "error"
 level_word levels.Info = codes "info"
 level_word levels.Debug = codes "debug"
 
--- whether `--keep-parked` is given, as it is read
+-- whether an option without a value is given, as it is read
 abbrev pub flag_word : Bool → Text
 flag_word true = codes "true"
 flag_word false = codes "false"
@@ -77,6 +77,8 @@ pub record IsServiceBy (rows : List Row) (service : ServeOptions) : Type 0 where
   pub metrics : HasNumber (codes "metrics") 0 65535 rows service.metrics
   pub log : first_of (codes "log") rows ≡ Some (level_word service.log)
   pub keep_parked : first_of (codes "keep-parked") rows ≡ Some (flag_word service.keep_parked)
+  pub declared_groups : first_of (codes "declared-groups") rows ≡ Some (flag_word service.declared_groups)
+  pub per_address : HasNumber (codes "per-address") 0 65535 rows service.per_address
   pub capacity : HaveCapacity rows service.setup.capacity
   pub max_inflight : HaveMaxInflight rows service.setup.max_inflight
   pub groups : AddsEach [] (pairs_in rows) service.setup.groups

@@ -100,6 +100,22 @@ keep_parked_option = record (new_rule (codes "keep-parked")) {
   action = Some SetTrue;
 }
 
+-- `--declared-groups`, at most once, without a value
+abbrev pub declared_groups_option : Rule
+declared_groups_option = record (new_rule (codes "declared-groups")) {
+  long = Some (codes "declared-groups");
+  action = Some SetTrue;
+}
+
+-- `--per-address N`, at most once: a number from 0 to 65535, and 0 where it is not given
+abbrev pub per_address_option : Rule
+per_address_option = record (new_rule (codes "per-address")) {
+  long = Some (codes "per-address");
+  value_names = 1;
+  parser = Some (Signed (pos 0) (pos 65535));
+  defaults = codes "0" ∷ [];
+}
+
 -- ---- the values that they have
 
 -- a text spells a number in decimal digits, after a plus or none

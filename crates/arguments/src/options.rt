@@ -1,7 +1,7 @@
 //! The options of the commands.
 ghost use Rattle.std.specs.Prelude.{◌≡◌};
 ghost use Rattle.clap.specs.Words.{rule_of};
-ghost use Rattle.arguments.specs.Options.{address_option, capacity_option, drain_option, group_option, keep_parked_option, log_option, max_inflight_option, metrics_option, port_option, until_option, workers_option};
+ghost use Rattle.arguments.specs.Options.{address_option, capacity_option, declared_groups_option, drain_option, group_option, keep_parked_option, log_option, max_inflight_option, metrics_option, per_address_option, port_option, until_option, workers_option};
 
 use clap::{Arg, ArgAction, value_parser};
 use std::alloc::Global;
@@ -143,5 +143,31 @@ pub(crate) fn keep_parked<'a>(alloc: Global) -> Arg<'a>
         .action(ArgAction::SetTrue)
         .help(
             "Where 256 sessions are kept, none that is parked goes for a client that has none: that one is refused, also where a session holds nothing and has no place in a group",
+        )
+}
+
+/// `--declared-groups`.
+pub(crate) fn declared_groups<'a>(alloc: Global) -> Arg<'a>
+    ensures { rule_of result ≡ declared_groups_option }
+{
+    Arg::new(alloc, "declared-groups")
+        .long("declared-groups")
+        .action(ArgAction::SetTrue)
+        .help(
+            "A client may subscribe to the groups that --group gives, and to no other: a SUBSCRIBE to another share is answered by 0x87 (Not authorized)",
+        )
+}
+
+/// `--per-address N`.
+pub(crate) fn per_address<'a>(alloc: Global) -> Arg<'a>
+    ensures { rule_of result ≡ per_address_option }
+{
+    Arg::new(alloc, "per-address")
+        .long("per-address")
+        .value_name("N")
+        .value_parser(value_parser!(u32).range(0..=65_535))
+        .default_value("0")
+        .help(
+            "How many connections an address may have at once, 0 to 65535; one more is closed as it comes; at 0 as many as there are",
         )
 }

@@ -33,6 +33,10 @@ pub struct ServeOptions {
     pub log: Level,
     /// Where as many sessions are kept as there may be, none that is parked goes for a client that has none.
     pub keep_parked: bool,
+    /// Clients have no groups but those that its setup names.
+    pub declared_groups: bool,
+    /// How many connections an address may have at once, 0 to 65535; at 0 as many as there are.
+    pub per_address: u32,
     /// What its groups begin with.
     pub setup: Setup,
     ghost few: { (1 ≤ workers) × (workers ≤ 64) },

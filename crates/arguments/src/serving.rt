@@ -1,5 +1,5 @@
 //! What a broker on TCP begins with, by the options of `serve`.
-ghost use Rattle.std.specs.Prelude.{◌≡◌, ◌⊎◌, ℕ, codes, IfOk, IfErr, MatchOption, Some};
+ghost use Rattle.std.specs.Prelude.{◌≡◌, ◌≢◌, ◌⊎◌, Bool, ℕ, codes, IfOk, IfErr, MatchOption, Some};
 ghost use Rattle.clap.specs.Words.{first_of, found_of, kind_of, rows_of};
 ghost use Rattle.clap.specs.declared.error.kind.ErrorKind.TheVariants as kinds;
 ghost use Rattle.arguments.specs.Options.{HasNumber, HaveCapacity, HaveMaxInflight};
@@ -23,6 +23,7 @@ struct Numbers {
     workers: u8,
     drain: u32,
     metrics: u16,
+    per_address: u32,
     capacity: QueueCapacity,
     max_inflight: MaxInflight,
 }
@@ -49,8 +50,11 @@ pub(crate) fn service_of(alloc: Global, options: &ArgMatches) -> Result<ServeOpt
     let Some(log) = level_of(options) else {
         return Err(wrong(alloc, "--log is off, error, info or debug")?);
     };
-    let Some(keep_parked) = is_keep_parked(options) else {
+    let Some(keep_parked) = flag_of(options, "keep-parked") else {
         return Err(wrong(alloc, "--keep-parked has no value")?);
+    };
+    let Some(declared_groups) = flag_of(options, "declared-groups") else {
+        return Err(wrong(alloc, "--declared-groups has no value")?);
     };
     match groups_of(alloc, options.get_strs("group").unwrap_or(&[]))? {
         Ok(groups) => Ok(ServeOptions {
@@ -62,6 +66,8 @@ pub(crate) fn service_of(alloc: Global, options: &ArgMatches) -> Result<ServeOpt
             metrics: numbers.metrics,
             log,
             keep_parked,
+            declared_groups,
+            per_address: numbers.per_address,
             setup: Setup {
                 capacity: numbers.capacity,
                 max_inflight: numbers.max_inflight,
@@ -92,13 +98,13 @@ fn until_of(options: &ArgMatches) -> Option<ServeUntil>
     }
 }
 
-/// Whether parked sessions are kept.
-fn is_keep_parked(options: &ArgMatches) -> Option<bool>
+/// Whether an option that has no value is given.
+fn flag_of(options: &ArgMatches, id: &str) -> Option<bool>
     ensures { MatchOption result
-        ((service : AnyService) → ¬ IsServiceBy (rows_of (found_of options.now)) service)
-        (λ keep_parked. first_of (codes "keep-parked") (rows_of (found_of options.now)) ≡ Some (flag_word keep_parked)) }
+        ((given : Bool) → first_of id.now (rows_of (found_of options.now)) ≢ Some (flag_word given))
+        (λ given. first_of id.now (rows_of (found_of options.now)) ≡ Some (flag_word given)) }
 {
-    match options.get_str("keep-parked")? {
+    match options.get_str(id)? {
         "true" => Some(true),
         "false" => Some(false),
         _ => None,
@@ -128,6 +134,7 @@ fn numbers_of(options: &ArgMatches) -> Option<Numbers>
         × HasNumber (codes "workers") 1 64 (rows_of (found_of options.now)) numbers.workers
         × HasNumber (codes "drain") 0 86400 (rows_of (found_of options.now)) numbers.drain
         × HasNumber (codes "metrics") 0 65535 (rows_of (found_of options.now)) numbers.metrics
+        × HasNumber (codes "per-address") 0 65535 (rows_of (found_of options.now)) numbers.per_address
         × HaveCapacity (rows_of (found_of options.now)) numbers.capacity
         × HaveMaxInflight (rows_of (found_of options.now)) numbers.max_inflight) }
 {
@@ -135,6 +142,7 @@ fn numbers_of(options: &ArgMatches) -> Option<Numbers>
     let workers = number(options, "workers", 1, 64)?;
     let drain = number(options, "drain", 0, 86_400)?;
     let metrics = number(options, "metrics", 0, 65_535)?;
+    let per_address = number(options, "per-address", 0, 65_535)?;
     let messages = number(options, "capacity", 1, 65_536)?;
     let packets = number(options, "max-inflight", 1, 256)?;
     Some(Numbers {
@@ -142,6 +150,7 @@ fn numbers_of(options: &ArgMatches) -> Option<Numbers>
         workers: workers as u8,
         drain,
         metrics: metrics as u16,
+        per_address,
         capacity: capacity_of(messages),
         max_inflight: limit_of(packets),
     })

@@ -8,6 +8,7 @@ use crate::endless::Endless;
 use arguments::{ServeOptions, ServeUntil};
 use broker_log::{Level, Log};
 use session_desk::Newcomers;
+use shared_routes::NewShares;
 use std::alloc::Global;
 use std::io::{Read, Write};
 use std::net::Net;
@@ -166,6 +167,8 @@ fn serve_reading<H: Threads + Wait + Net + Clock + Sync, R: Read + Send, W: Writ
         max_inflight: service.setup.max_inflight,
         drain: service.drain,
         newcomers: newcomers_of(service.keep_parked),
+        new_shares: new_shares_of(service.declared_groups),
+        per_address: service.per_address,
     };
     let at = ListenAt {
         address: service.address,
@@ -190,5 +193,14 @@ fn newcomers_of(keep_parked: bool) -> Newcomers {
         Newcomers::IfRoom
     } else {
         Newcomers::Displace
+    }
+}
+
+/// What a broker does for a client that asks for the group of a share that was not given.
+fn new_shares_of(declared_groups: bool) -> NewShares {
+    if declared_groups {
+        NewShares::Refused
+    } else {
+        NewShares::Bound
     }
 }

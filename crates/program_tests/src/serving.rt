@@ -85,6 +85,14 @@ fn what_words_of_serve_ask_for(rt: HostRuntime) -> Result<(), Fail> {
             "share_broker serve --keep-parked --port 1 --group g:job",
             "serve 127.0.0.1:1 8 Stdin 0 0 Off kept 1024 256 $share/g/job",
         ),
+        (
+            "share_broker serve --declared-groups --port 1 --group g:job",
+            "serve 127.0.0.1:1 8 Stdin 0 0 Off declared 1024 256 $share/g/job",
+        ),
+        (
+            "share_broker serve --per-address 3 --port 1",
+            "serve 127.0.0.1:1 8 Stdin 0 0 Off 3 each 1024 256",
+        ),
         ("share_broker serve --port 1 --address localhost", "2"),
         ("share_broker serve --port 1 --address 1.2.3", "2"),
         ("share_broker serve --port 1 --address 1.2.3.256", "2"),
@@ -145,6 +153,11 @@ fn faults_of_options(rt: HostRuntime) -> Result<(), Fail> {
         ("share_broker serve --port 1 --keep-parked yes", "2"),
         ("share_broker serve --port 1 --keep-parked=true", "2"),
         ("share_broker drive --keep-parked", "2"),
+        ("share_broker serve --port 1 --declared-groups yes", "2"),
+        ("share_broker drive --declared-groups", "2"),
+        ("share_broker serve --port 1 --per-address -1", "2"),
+        ("share_broker serve --port 1 --per-address 65536", "2"),
+        ("share_broker solo --per-address 1", "2"),
     ];
     assert_asked(&rt, rt.alloc(), &rows)
 }

@@ -15,7 +15,7 @@ pub(crate) fn words_of(alloc: Global, line: &str) -> Result<Vec<String>, AllocEr
 }
 
 /// What a line asks for: the command, and of `serve` the address, the port, the workers, until when, the time to drain, the port of metrics, the level of its log
-/// and whether parked sessions are kept; the capacity, the limit of unacknowledged messages and the shares; or the status of its fault.
+/// whether parked sessions are kept, whether groups are to be declared and how many connections an address may have; the capacity, the limit of unacknowledged messages and the shares; or the status of its fault.
 pub(crate) fn asked(alloc: Global, line: &str) -> Result<String, AllocError> {
     let words = words_of(alloc, line)?;
     match arguments(alloc, &words) {
@@ -23,8 +23,17 @@ pub(crate) fn asked(alloc: Global, line: &str) -> Result<String, AllocError> {
         Ok(Request::Drive(setup)) => told(alloc, "drive", &setup),
         Ok(Request::Serve(service)) => {
             let kept = if service.keep_parked { " kept" } else { "" };
+            let declared = if service.declared_groups {
+                " declared"
+            } else {
+                ""
+            };
+            let each = match service.per_address {
+                0 => String::new(alloc),
+                most => format!(in alloc; " {most} each")?,
+            };
             let command = format!(in alloc;
-                "serve {}:{} {} {:?} {} {} {:?}{kept}",
+                "serve {}:{} {} {:?} {} {} {:?}{kept}{declared}{each}",
                 service.address,
                 service.port,
                 service.workers,

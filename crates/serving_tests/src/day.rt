@@ -3,9 +3,12 @@ ghost use Rattle.std.specs.Prelude.{◌≤◌};
 
 use crate::wrong::Wrong;
 use broker_log::{Level, Log};
+use bytes::Bytes;
 use conn_rules::MaxInflight;
-use mqtt_topic::Routes;
+use mqtt_packet::Text;
+use mqtt_topic::{Routes, Share};
 use session_desk::Newcomers;
+use shared_routes::NewShares;
 use std::alloc::Global;
 use std::io::Read;
 use std::net::{Ipv4Addr, Net, TcpListener, TcpStream};
@@ -55,21 +58,26 @@ pub(crate) struct Counts {
     pub(crate) discardable: u64,
 }
 
-/// Where a broker listens, how many workers it has, and for how many seconds it drains at most.
+/// Where a broker listens, how many workers it has, for how many seconds it drains at most, what it does with shares that are not declared, where it refuses them,
+/// `$share/g/job` is declared, and how many connections an address may have, 0 for any number.
 #[derive(Clone, Copy)]
 pub(crate) struct Listener {
     pub(crate) port: u16,
     pub(crate) workers: u8,
     pub(crate) drain: u32,
+    pub(crate) new_shares: NewShares,
+    pub(crate) per_address: u32,
 }
 
 impl Listener {
-    /// One with so many workers, which does not drain.
+    /// One with so many workers, which does not drain, binds what clients ask for and takes any number of connections.
     pub(crate) fn at(port: u16, workers: u8) -> Listener {
         Listener {
             port,
             workers,
             drain: 0,
+            new_shares: NewShares::Bound,
+            per_address: 0,
         }
     }
 }
@@ -136,6 +144,8 @@ fn serve<R: Threads + Wait + Net<Listener = TcpListener, Stream = TcpStream> + C
         max_inflight: MaxInflight::most(),
         drain: broker.drain,
         newcomers: Newcomers::Displace,
+        new_shares: broker.new_shares,
+        per_address: broker.per_address,
     };
     let at = ListenAt {
         address: Ipv4Addr::LOCALHOST,
@@ -144,20 +154,33 @@ fn serve<R: Threads + Wait + Net<Listener = TcpListener, Stream = TcpStream> + C
     };
     let mut input = Held { rt, ends: closes };
     let mut output = Vec::new(alloc);
-    let Ok(log) = Log::open(alloc, Level::Off) else {
+    let (Ok(log), Some(groups)) = (
+        Log::open(alloc, Level::Off),
+        groups_of(alloc, broker.new_shares),
+    ) else {
         return (Err(RunError::Memory), output);
     };
     let ended = serve_at(
         rt,
         alloc,
         settings,
-        &Routes::new(alloc),
+        &groups,
         at,
         &log,
         &mut input,
         &mut output,
     );
     (ended, output)
+}
+
+/// The groups that are there from the start.
+fn groups_of(alloc: Global, new_shares: NewShares) -> Option<Routes> {
+    let mut groups = Routes::new(alloc);
+    if new_shares == NewShares::Refused {
+        let text = Text::parse(Bytes::from_static(b"$share/g/job"))?;
+        groups.bind(Share::parse(text).ok()?).ok()?;
+    }
+    Some(groups)
 }
 
 /// The numbers that stand in a text.

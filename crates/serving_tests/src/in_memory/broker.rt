@@ -14,6 +14,7 @@ use group_queue::Nobody;
 use scripted_transport::Scripted;
 use session_desk::Newcomers;
 use shared_desk::OpenedDesk;
+use shared_routes::NewShares;
 use std::alloc::{AllocError, Global};
 use std::marker::Brand;
 use std::rt::Clock;
@@ -238,8 +239,16 @@ fn live_with<
     requires desk { desk ≡ N.history }
 {
     let mut seats = seats;
-    let Ok(broker) = OpenBroker::<B, N>::open(rt, alloc, gate, &mut seats, opened, desk, workers)
-    else {
+    let Ok(broker) = OpenBroker::<B, N>::open(
+        rt,
+        alloc,
+        gate,
+        &mut seats,
+        opened,
+        desk,
+        NewShares::Bound,
+        workers,
+    ) else {
         return None;
     };
     let closers = Closers {

@@ -7,6 +7,7 @@ use broker_log::{Level, Log};
 use conn_rules::MaxInflight;
 use mqtt_topic::Routes;
 use session_desk::Newcomers;
+use shared_routes::NewShares;
 use std::alloc::Global;
 use std::io::Read;
 use std::net::{Ipv4Addr, Net, SocketAddr, TcpListener, TcpStream};
@@ -320,6 +321,8 @@ fn served_twice<R: Threads + Wait + Net<Listener = TcpListener, Stream = TcpStre
             max_inflight: MaxInflight::most(),
             drain: 0,
             newcomers: Newcomers::Displace,
+            new_shares: NewShares::Bound,
+            per_address: 0,
         },
         &Routes::new(alloc),
         ListenAt {

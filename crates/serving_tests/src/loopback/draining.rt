@@ -27,9 +27,8 @@ struct Draining;
 impl Day for Draining {
     fn broker(&self) -> Listener {
         Listener {
-            port: PORT,
-            workers: 2,
             drain: 60,
+            ..Listener::at(PORT, 2)
         }
     }
 

@@ -14,6 +14,12 @@ pub(crate) const CONNECT_FOR_AN_HOUR: [u8; 22] =
 /// A SUBSCRIBE to $share/g/job, and a PUBLISH to job.
 pub(crate) const SUBSCRIBE: [u8; 20] = *b"\x82\x12\x00\x01\x00\x00\x0C$share/g/job\x01";
 
+/// A SUBSCRIBE to $share/h/job and to $share/g/job, and the SUBACK where only the second is declared.
+pub(crate) const SUBSCRIBE_TWO: [u8; 35] =
+    *b"\x82\x21\x00\x01\x00\x00\x0C$share/h/job\x01\x00\x0C$share/g/job\x01";
+
+pub(crate) const ONE_AUTHORIZED: [u8; 7] = *b"\x90\x05\x00\x01\x00\x87\x01";
+
 pub(crate) const PUBLISH: [u8; 11] = *b"\x32\x09\x00\x03job\x00\x07\x00A";
 
 /// The CONNACK of a new session, and that of one that is resumed.

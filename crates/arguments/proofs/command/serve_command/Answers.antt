@@ -16,7 +16,9 @@ returns c =
     let metrics = c.in_ok-arg-6.ensures.shape (simple_own c.metrics.result (ap (λ (r : Rule). r.is_simple) c.metrics.ensures)) ∙ ap₂ with_rule drain c.metrics.ensures in
     let log = c.in_ok-arg-7.ensures.shape (simple_own c.log.result (ap (λ (r : Rule). r.is_simple) c.log.ensures)) ∙ ap₂ with_rule metrics c.log.ensures in
     let keep_parked = c.in_ok-arg-8.ensures.shape (simple_own c.keep_parked.result (ap (λ (r : Rule). r.is_simple) c.keep_parked.ensures)) ∙ ap₂ with_rule log c.keep_parked.ensures in
-    let capacity = c.in_ok-arg-9.ensures.shape (simple_own c.capacity.result (ap (λ (r : Rule). r.is_simple) c.capacity.ensures)) ∙ ap₂ with_rule keep_parked c.capacity.ensures in
-    let max_inflight = c.in_ok-arg-10.ensures.shape (simple_own c.max_inflight.result (ap (λ (r : Rule). r.is_simple) c.max_inflight.ensures)) ∙ ap₂ with_rule capacity c.max_inflight.ensures in
+    let declared_groups = c.in_ok-arg-9.ensures.shape (simple_own c.declared_groups.result (ap (λ (r : Rule). r.is_simple) c.declared_groups.ensures)) ∙ ap₂ with_rule keep_parked c.declared_groups.ensures in
+    let per_address = c.in_ok-arg-10.ensures.shape (simple_own c.per_address.result (ap (λ (r : Rule). r.is_simple) c.per_address.ensures)) ∙ ap₂ with_rule declared_groups c.per_address.ensures in
+    let capacity = c.in_ok-arg-11.ensures.shape (simple_own c.capacity.result (ap (λ (r : Rule). r.is_simple) c.capacity.ensures)) ∙ ap₂ with_rule per_address c.capacity.ensures in
+    let max_inflight = c.in_ok-arg-12.ensures.shape (simple_own c.max_inflight.result (ap (λ (r : Rule). r.is_simple) c.max_inflight.ensures)) ∙ ap₂ with_rule capacity c.max_inflight.ensures in
     let own = simple_own c.group.result (ap (λ (r : Rule). r.is_simple) c.group.ensures) in
-    IfOk-weaker c.arg-11.result _ _ (λ command h. h.shape own ∙ ap₂ with_rule max_inflight c.group.ensures) c.arg-11.ensures
+    IfOk-weaker c.arg-13.result _ _ (λ command h. h.shape own ∙ ap₂ with_rule max_inflight c.group.ensures) c.arg-13.ensures

@@ -11,6 +11,7 @@ returns c =
       c.in_ok-workers.ensures,
       c.in_ok-drain.ensures,
       c.in_ok-metrics.ensures,
+      c.in_ok-per_address.ensures,
       subst (HaveCapacity rows) (sym c.capacity_of.ensures) c.in_ok-messages.ensures,
       subst (HaveMaxInflight rows) (sym c.limit_of.ensures) c.in_ok-packets.ensures,
     )
@@ -26,6 +27,9 @@ returns-in_err-drain c = rw c.from_residual-in_err-drain.ensures (λ service by.
 
 pub returns-in_err-metrics : goal.returns-in_err-metrics
 returns-in_err-metrics c = rw c.from_residual-in_err-metrics.ensures (λ service by. c.in_err-metrics.ensures service.metrics by.metrics)
+
+pub returns-in_err-per_address : goal.returns-in_err-per_address
+returns-in_err-per_address c = rw c.from_residual-in_err-per_address.ensures (λ service by. c.in_err-per_address.ensures service.per_address by.per_address)
 
 pub returns-in_err-messages : goal.returns-in_err-messages
 returns-in_err-messages c = rw c.from_residual-in_err-messages.ensures (λ service by. c.in_err-messages.ensures service.setup.capacity by.capacity)

@@ -31,9 +31,11 @@ returns-in-Ok-clause-ok c =
       drain = c.in-Some-numbers_of.ensures.2;
       metrics = c.in-Some-numbers_of.ensures.3;
       log = c.in-Some-level_of.ensures;
-      keep_parked = c.in-Some-is_keep_parked.ensures;
-      capacity = c.in-Some-numbers_of.ensures.4;
-      max_inflight = c.in-Some-numbers_of.ensures.5;
+      keep_parked = c.in-Some-flag_of.ensures;
+      declared_groups = c.in-Some-flag_of-2.ensures;
+      per_address = c.in-Some-numbers_of.ensures.4;
+      capacity = c.in-Some-numbers_of.ensures.5;
+      max_inflight = c.in-Some-numbers_of.ensures.6;
       groups = subst (λ texts. AddsEach [] texts c.in-Ok.groups) pairs all;
     }
 
