@@ -189,19 +189,29 @@ def silent(work):
     work.again(once)
 
 
-def silent_storm(work):
-    """Connections that send nothing; the one that was opened first is closed for each that is opened, where the broker has not closed it."""
+def storm(work, beginning):
+    """Connections that send these bytes and nothing more; the one that was opened first is closed for each that is opened, where the broker has not closed it."""
     streams = collections.deque()
 
     def once():
         try:
-            streams.append(Client(work.port, OPENING_PATIENCE).socket)
+            client = Client(work.port, OPENING_PATIENCE)
+            streams.append(client.socket)
+            client.send(beginning)
             work.did()
         finally:
             while len(streams) > STORM_CONNECTIONS:
                 streams.popleft().close()
 
     work.again(once)
+
+
+def silent_storm(work):
+    storm(work, b"")
+
+
+def half_storm(work):
+    storm(work, connect(work.name)[:1])
 
 
 def parked(work):
@@ -254,6 +264,7 @@ ATTACKS = {
     "takeover": Attack(4, takeover, "connections"),
     "silent": Attack(1, silent, "connections", by_second=False, before=SILENT_CONNECTIONS),
     "silent-storm": Attack(4, silent_storm, "connections", before=4 * STORM_CONNECTIONS),
+    "half-storm": Attack(4, half_storm, "connections", before=4 * STORM_CONNECTIONS),
     "parked": Attack(4, parked, "sessions", before=512),
     "payloads": Attack(4, payloads, "packets"),
     "take-and-die": Attack(1, take_and_die, "jobs taken", before=0),
