@@ -1,11 +1,14 @@
 -- A reactor as contracts see it, and what each of its calls changes.
-use Rattle.std.specs.Prelude.{◌≡◌, ℕ, ◌≤◌, ◌+◌, ◌==◌, ◌⊎◌, Bool, true, false, not, ◌||◌, cond, List, [], ◌∷◌, ◌++◌, length, set, filter_map, position, replicate, slice_get, Option, Some, None, Result, Ok, Err}
+use Rattle.std.specs.Prelude.{◌≡◌, ℕ, ◌≤◌, ◌+◌, ◌==◌, ◌⊎◌, Bool, true, false, not, ◌||◌, cond, if◌then◌else◌, List, [], ◌∷◌, ◌++◌, length, set, filter_map, position, replicate, slice_get, Option, Some, None, Result, Ok, Err}
 use Rattle.std.specs.List.{list_any}
+use Rattle.std.specs.IoError.{raw_os_error}
+use Rattle.std_io.specs.declared.io.error.Error.{Error}
 use Rattle.mio.specs.declared.event.event.Event.{Event}
 use Rattle.mio.specs.Event as event
 use Rattle.tcp_edge.specs.declared.reactor.Ready.{Ready}
 use Rattle.tcp_edge.specs.declared.reactor.ReactorError.{ReactorError}
-use Rattle.tcp_edge.specs.declared.reactor.ReactorError.TheVariants.{Full, System}
+use Rattle.tcp_edge.specs.declared.reactor.ReactorError.TheVariants.{Full, TooFewDescriptors, System}
+use Rattle.tcp_edge.specs.Sources.{lacks_descriptors}
 
 -- how many sources are watched at most
 abbrev pub most_sources : ℕ
@@ -50,6 +53,10 @@ tell seats e = cond (is_taken seats (event.event_token e).0) (Some (ready_of e))
 -- what events tell, in their order
 abbrev pub readies : List Bool → List Event → List Ready
 readies seats events = filter_map (tell seats) events
+
+-- why a reactor was not opened
+abbrev pub reactor_error_of : Error → ReactorError
+reactor_error_of error = if lacks_descriptors (raw_os_error error) then TooFewDescriptors else System
 
 -- a registration takes the least number that is free, where there is one and the system takes it; else nothing changes
 abbrev pub Registers : ReactorState → Result ℕ ReactorError → ReactorState → Type 0

@@ -23,10 +23,20 @@ pub record SourceState : Type 0 where
 abbrev pub IsPortFor : ℕ → ℕ → Type 0
 IsPortFor asked port = (0 < port) × (asked ≢ 0 → port ≡ asked)
 
+-- there is no descriptor left, in all (ENFILE, 23) or for this process (EMFILE, 24)
+abbrev pub lacks_descriptors : Option ℤ → Bool
+lacks_descriptors (Some code) = int_eq code (pos 23) || int_eq code (pos 24)
+lacks_descriptors None = false
+
 -- why a listener was not opened
-abbrev pub open_error_of : ErrorKind → OpenError
-open_error_of kind.AddrInUse = refusal.PortInUse
-open_error_of _ = refusal.System
+abbrev pub refusal_of : ErrorKind → OpenError
+refusal_of kind.AddrInUse = refusal.PortInUse
+refusal_of kind.AddrNotAvailable = refusal.AddressElsewhere
+refusal_of kind.PermissionDenied = refusal.NotPermitted
+refusal_of _ = refusal.System
+
+abbrev pub open_error_of : Error → OpenError
+open_error_of error = if lacks_descriptors (raw_os_error error) then refusal.TooFewDescriptors else refusal_of (error_kind error)
 
 -- the system is short of something for now, by the number of its error: of memory (ENOMEM, 12), of descriptors (ENFILE, 23, and EMFILE, 24), or
 -- of buffers (ENOBUFS, 105)

@@ -2,13 +2,15 @@
 ghost use Rattle.std.specs.Prelude.{◌≡◌, ◌<◌, ◌≤◌, ◌+◌, ◌++◌, [], false, length, replicate, position, not, vec_len, vec_capacity, ◌⊎◌, IfOk, OnErr, OnOk};
 ghost use Rattle.std.specs.List.{cons_option, list_any};
 ghost use Rattle.mio.specs.Events.{items, capacity as events_capacity};
-ghost use Rattle.tcp_edge.specs.Reactors.{AreFree, IsSeated, LetsGo, Registers, Takes, Waits, is_alarm, is_taken, most_sources, readies, tell};
+ghost use Rattle.tcp_edge.specs.Reactors.{AreFree, IsSeated, LetsGo, Registers, Takes, Waits, is_alarm, is_taken, most_sources, reactor_error_of, readies, tell};
 ghost use Rattle.tcp_edge.specs.declared.reactor.ReactorError.TheVariants.{Full};
 
+use crate::source::is_without_descriptors;
 use bell::Wake;
 use mio::event::{Event, Source};
 use mio::{Events, Interest, Poll, Token, Waker};
 use std::alloc::Global;
+use std::io;
 use std::io::ErrorKind;
 use std::marker::Model;
 use std::net::Net;
@@ -31,12 +33,28 @@ pub enum ReactorError {
     /// It watches as many sources as it can.
     #[error("the reactor is full")]
     Full,
+    /// The process, or the system, has as many file descriptors as it may.
+    #[error("too few file descriptors")]
+    TooFewDescriptors,
     /// The system refused.
     #[error("the system refused")]
     System,
     /// There is no memory.
     #[error("no memory for a reactor")]
     Memory,
+}
+
+impl ReactorError {
+    /// What it means that the system gave no place to wait at, or refused a source.
+    pub fn of(error: &io::Error) -> ReactorError
+        ensures { result ≡ reactor_error_of error.now }
+    {
+        if is_without_descriptors(error) {
+            ReactorError::TooFewDescriptors
+        } else {
+            ReactorError::System
+        }
+    }
 }
 
 /// What a source is ready for, as the system told. A call of it may still be idle.
@@ -179,14 +197,14 @@ impl Reactor {
     ///
     /// # Errors
     ///
-    /// [`ReactorError::Memory`], [`ReactorError::System`].
+    /// [`ReactorError::Memory`], [`ReactorError::TooFewDescriptors`], [`ReactorError::System`].
     pub fn open(net: &impl Net, alloc: Global) -> Result<(Reactor, Alarm), ReactorError>
         ensures { IfOk result (λ opened. AreFree opened.0) }
     {
         let seats = free_seats(alloc)?;
         let (ready, events) = room(alloc)?;
-        let poll = Poll::new(net).map_err(|_| ReactorError::System)?;
-        let waker = Waker::new(poll.registry(), Token(ALARM)).map_err(|_| ReactorError::System)?;
+        let poll = Poll::new(net).map_err(|e| ReactorError::of(&e))?;
+        let waker = Waker::new(poll.registry(), Token(ALARM)).map_err(|e| ReactorError::of(&e))?;
         let reactor = Reactor {
             poll,
             events,

@@ -1,7 +1,7 @@
 //! Where connections come from: a listener.
 ghost use Rattle.std.specs.Prelude.{◌≡◌, ◌<◌, IfOk, IfErr, IfSome, None, Some};
 ghost use Rattle.std.specs.IoError.{error_kind, raw_os_error};
-ghost use Rattle.tcp_edge.specs.Sources.{IsFresh, IsPortFor, is_short, open_error_of, passed_over, refused_arrival};
+ghost use Rattle.tcp_edge.specs.Sources.{IsFresh, IsPortFor, is_short, lacks_descriptors, open_error_of, passed_over, refused_arrival};
 ghost use Rattle.transport.specs.Counting.{ComesNew, MayCome, after_arrival};
 
 use crate::socket::Socket;
@@ -33,6 +33,15 @@ pub enum OpenError {
     /// Another listener has the port.
     #[error("the port is in use")]
     PortInUse,
+    /// The address is not one of this machine.
+    #[error("the address is not one of this machine")]
+    AddressElsewhere,
+    /// The process may not listen there, as at a port below 1024.
+    #[error("permission denied")]
+    NotPermitted,
+    /// The process, or the system, has as many file descriptors as it may.
+    #[error("too few file descriptors")]
+    TooFewDescriptors,
     /// The system refused.
     #[error("the system refused")]
     System,
@@ -57,12 +66,27 @@ impl Model for TcpSource {
     ghost view = { λ s. record { listener = s.listener; port = s.port; tally = s.tally } };
 }
 
-/// What it means that a listener was not opened.
-fn open_error(kind: ErrorKind) -> OpenError
-    ensures { result ≡ open_error_of kind }
+/// Whether the system has no descriptor left for this process, by an error of its own.
+pub(crate) fn is_without_descriptors(error: &io::Error) -> bool
+    ensures { result ≡ lacks_descriptors (raw_os_error error.now) }
 {
-    match kind {
+    match error.raw_os_error() {
+        Some(code) => code == TOO_MANY_IN_ALL || code == TOO_MANY,
+        None => false,
+    }
+}
+
+/// What it means that a listener was not opened.
+fn open_error(error: &io::Error) -> OpenError
+    ensures { result ≡ open_error_of error.now }
+{
+    if is_without_descriptors(error) {
+        return OpenError::TooFewDescriptors;
+    }
+    match error.kind() {
         ErrorKind::AddrInUse => OpenError::PortInUse,
+        ErrorKind::AddrNotAvailable => OpenError::AddressElsewhere,
+        ErrorKind::PermissionDenied => OpenError::NotPermitted,
         _ => OpenError::System,
     }
 }
@@ -112,13 +136,13 @@ impl TcpSource {
     ///
     /// # Errors
     ///
-    /// [`OpenError::PortInUse`], [`OpenError::System`].
+    /// [`OpenError`].
     pub fn open(net: &impl Net, address: Ipv4Addr, port: u16) -> Result<TcpSource, OpenError>
         ensures port { IfOk result (λ source. IsPortFor port source.port) }
         ensures fresh { IfOk result (λ source. source.tally ≡ record { failures = 0; arrivals = 0 }) }
     {
         let place = SocketAddr::from((address, port));
-        let listener = TcpListener::bind(net, place).map_err(|e| open_error(e.kind()))?;
+        let listener = TcpListener::bind(net, place).map_err(|e| open_error(&e))?;
         let chosen = listener.local_addr().map_err(|_| OpenError::System)?.port();
         if chosen == 0 || port != 0 && chosen != port {
             return Err(OpenError::System);
