@@ -4,7 +4,7 @@ use Rattle.hex.specs.Hex.{decode_of}
 use Rattle.hex.specs.declared.error.FromHexError.{FromHexError}
 use Rattle.text_io.specs.Lines.{lines_of}
 use Rattle.text_io.specs.declared.error.RunError.{RunError}
-use Rattle.text_io.specs.declared.error.RunError.TheVariants.{ReadFailed, TooManyReads, WriteFailed, Network, Memory, Unfinished, Line}
+use Rattle.text_io.specs.declared.error.RunError.TheVariants.{ReadFailed, TooManyReads, WriteFailed, Network, Memory, TooFewDescriptors, Unfinished, Line}
 use Rattle.local_server.specs.declared.event.ServerEvent.{ServerEvent}
 use Rattle.local_server.specs.declared.event.ServerEvent.TheVariants.{Open, Bytes, Tick, End, Close}
 use Rattle.local_server.specs.declared.event.TimedEvent.{TimedEvent}
@@ -71,8 +71,9 @@ script_of input = script_from 1 (lines_of input)
 abbrev pub NamesBadLine : Result (List TimedEvent) ℕ → RunError → Type 0
 NamesBadLine script ReadFailed = ⊥
 NamesBadLine script TooManyReads = ⊥
-NamesBadLine script Network = ⊥
+NamesBadLine script (Network fault) = ⊥
 NamesBadLine script Unfinished = ⊥
-NamesBadLine script WriteFailed = ⊥
+NamesBadLine script (WriteFailed fault) = ⊥
+NamesBadLine script TooFewDescriptors = ⊥
 NamesBadLine script Memory = Unit {0}
 NamesBadLine script (Line number) = script ≡ Err number

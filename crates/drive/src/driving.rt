@@ -1,7 +1,9 @@
 //! A run: from a reader of what happens to a writer of what is said.
-ghost use Rattle.std.specs.Prelude.{◌≡◌, ◌≢◌, ◌++◌, List, ℕ, length, Err, OnOk, IfOk, IfErr, IfSome, Ok};
+ghost use Rattle.std.specs.Prelude.{◌≡◌, ◌++◌, List, ℕ, length, Err, OnOk, IfOk, IfErr, IfSome, Ok};
 ghost use Rattle.std.specs.List.{flat_map};
 ghost use Rattle.std.specs.Io.KnownBytes.{Keeps};
+ghost use Rattle.text_io.specs.Status.{IsOfWriting};
+ghost use Rattle.text_io.specs.declared.error.DeviceFault.{DeviceFault};
 ghost use Rattle.text_io.specs.declared.error.RunError.TheVariants.{Memory};
 ghost use Rattle.client_table.specs.Clients.{StepOutput as Output};
 ghost use Rattle.conn_rules.specs.declared.setup.Setup.{Setup as Beginning};
@@ -47,9 +49,9 @@ pub fn drive_lines<R: Read, W: Write>(
     ensures bad_line { (line : ℕ) → result ≡ Err (RunError.Line line) → IfSome (R.remaining reader.old)
         (λ input. script_of input ≡ Err line) }
     // Where the writer failed, what was written begins the transcript; at each other error nothing was written.
-    ensures begun { result ≡ Err RunError.WriteFailed → IfSome (R.remaining reader.old)
+    ensures begun { (fault : DeviceFault) → result ≡ Err (RunError.WriteFailed fault) → IfSome (R.remaining reader.old)
         (λ input. BeginsTo (IsDriveOutput setup input) (W.contents writer.old) (W.contents writer.new)) }
-    ensures kept { IfErr result (λ error. error ≢ RunError.WriteFailed → Keeps (W.contents writer.old) (W.contents writer.new)) }
+    ensures kept { IfErr result (λ error. ¬ IsOfWriting error → Keeps (W.contents writer.old) (W.contents writer.new)) }
 {
     run(alloc, Form::Events, setup, reader, writer)
 }
@@ -75,9 +77,9 @@ pub fn drive_client<R: Read, W: Write>(
     ensures bad_line { (line : ℕ) → result ≡ Err (RunError.Line line) → IfSome (R.remaining reader.old)
         (λ input. client_script_of input ≡ Err line) }
     // Where the writer failed, what was written begins that; at each other error nothing was written.
-    ensures begun { result ≡ Err RunError.WriteFailed → IfSome (R.remaining reader.old)
+    ensures begun { (fault : DeviceFault) → result ≡ Err (RunError.WriteFailed fault) → IfSome (R.remaining reader.old)
         (λ input. BeginsTo (IsClientOutput setup input) (W.contents writer.old) (W.contents writer.new)) }
-    ensures kept { IfErr result (λ error. error ≢ RunError.WriteFailed → Keeps (W.contents writer.old) (W.contents writer.new)) }
+    ensures kept { IfErr result (λ error. ¬ IsOfWriting error → Keeps (W.contents writer.old) (W.contents writer.new)) }
 {
     run(alloc, Form::Client, setup, reader, writer)
 }
@@ -94,9 +96,9 @@ fn run<R: Read, W: Write>(
         (λ input. Writes (IsOutput (script_as form input) (lines_as form) setup) (W.contents writer.old) (W.contents writer.new))) }
     ensures bad_line { (line : ℕ) → result ≡ Err (RunError.Line line) → IfSome (R.remaining reader.old)
         (λ input. script_as form input ≡ Err line) }
-    ensures begun { result ≡ Err RunError.WriteFailed → IfSome (R.remaining reader.old)
+    ensures begun { (fault : DeviceFault) → result ≡ Err (RunError.WriteFailed fault) → IfSome (R.remaining reader.old)
         (λ input. BeginsTo (IsOutput (script_as form input) (lines_as form) setup) (W.contents writer.old) (W.contents writer.new)) }
-    ensures kept { IfErr result (λ error. error ≢ RunError.WriteFailed → Keeps (W.contents writer.old) (W.contents writer.new)) }
+    ensures kept { IfErr result (λ error. ¬ IsOfWriting error → Keeps (W.contents writer.old) (W.contents writer.new)) }
 {
     let input = read_all(alloc, reader)?;
     let events = read_events(alloc, form, &input)?;

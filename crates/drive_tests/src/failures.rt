@@ -8,7 +8,7 @@ use std::io;
 use std::io::{ErrorKind, Read, Write};
 use std::process::Abort;
 use std::test::Fail;
-use text_io::RunError;
+use text_io::{DeviceFault, RunError};
 
 /// A form of a run.
 #[derive(Clone, Copy)]
@@ -182,7 +182,7 @@ fn fail_behind_each(rt: &impl Abort, alloc: Global, form: Form, input: &[u8], ou
     for room in 0..=output.len() {
         let mut writer = FailingWriter::new(alloc, room);
         let ended = run(alloc, form, &mut &input[..], &mut writer);
-        assert_same(&rt, &ended, &Err(RunError::WriteFailed));
+        assert_same(&rt, &ended, &Err(RunError::WriteFailed(DeviceFault::Other)));
         assert_same_bytes(rt, &writer.taken, &output[..room], "behind a byte");
     }
 }
@@ -192,6 +192,6 @@ fn writer_fails(rt: HostRuntime) -> Result<(), Fail> {
     let input = join(rt.alloc(), &[CONNECT, SUBSCRIBE, JOB])?;
     fail_behind_each(&rt, rt.alloc(), Form::Solo, &input, FIRST_JOB_OUT);
     fail_behind_each(&rt, rt.alloc(), Form::Drive, EVENTS, SAID);
-    assert_same(&rt, &RunError::WriteFailed.status(), &3);
+    assert_same(&rt, &RunError::WriteFailed(DeviceFault::Other).status(), &3);
     Ok(())
 }

@@ -9,7 +9,7 @@ use std::io;
 use std::net::{Ipv4Addr, Net};
 use std::random::RandomSource;
 use std::time::Instant;
-use tcp_edge::TcpSource;
+use tcp_edge::{OpenError as ListenError, TcpSource};
 use thiserror::Error;
 use transport::{Arrival, Source};
 
@@ -47,8 +47,8 @@ impl RandomSource for FixedKeys {
 #[derive(Clone, Copy, Debug, PartialEq, Eq, Error)]
 pub enum OpenError {
     /// The address was not listened at.
-    #[error("the system refused")]
-    System,
+    #[error(transparent)]
+    NotListening(ListenError),
     /// An allocation failed.
     #[error("out of memory")]
     Memory,
@@ -69,15 +69,17 @@ impl MetricsServer {
     ///
     /// # Errors
     ///
-    /// [`OpenError::System`], [`OpenError::Memory`].
+    /// [`OpenError::NotListening`], [`OpenError::Memory`].
     pub fn open(
         net: &impl Net,
         alloc: Global,
         address: Ipv4Addr,
         port: u16,
     ) -> Result<MetricsServer, OpenError> {
-        let source = TcpSource::open(net, address, port).map_err(|_| OpenError::System)?;
-        let keys = RandomState::new(&FixedKeys).map_err(|_| OpenError::System)?;
+        let source = TcpSource::open(net, address, port).map_err(OpenError::NotListening)?;
+        let keys = RandomState::new(&FixedKeys).map_err(|_| OpenError::NotListening(
+            ListenError::System,
+        ))?;
         Ok(MetricsServer {
             alloc,
             keys,

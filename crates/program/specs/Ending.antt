@@ -11,8 +11,8 @@ use Rattle.broker_log.specs.declared.level.Level.{Level}
 use Rattle.broker_log.specs.declared.level.Level.TheVariants as levels
 use Rattle.broker_log.specs.Lines.{BeginsToLog}
 use Rattle.text_io.specs.declared.error.RunError.{RunError}
-use Rattle.text_io.specs.declared.error.RunError.TheVariants.{ReadFailed, TooManyReads, WriteFailed, Network, Memory, Unfinished, Line}
-use Rattle.text_io.specs.Status.{status_of, error_line}
+use Rattle.text_io.specs.declared.error.RunError.TheVariants.{ReadFailed, TooManyReads, WriteFailed, Network, Memory, TooFewDescriptors, Unfinished, Line}
+use Rattle.text_io.specs.Status.{status_of, error_line, IsOfWriting}
 use Rattle.text_io.specs.Passing.{Begins}
 use Rattle.drive.specs.Scripts.{script_of}
 use Rattle.drive.specs.Transcripts.{IsDriveOutput, Writes, BeginsTo}
@@ -38,7 +38,7 @@ status_at (Err error) = status_of error
 -- a text was said on the error output, or it was not, since that failed or memory was refused for the text: then a beginning of it stands there
 abbrev pub IsSaid : List ℕ → Result (Unit {0}) RunError → Option (List ℕ) → Option (List ℕ) → Type 0
 IsSaid text (Ok done) old new = Appends old new text
-IsSaid text (Err failure) old new = ((failure ≡ WriteFailed) ⊎ (failure ≡ Memory)) × Begins old new text
+IsSaid text (Err failure) old new = (IsOfWriting failure ⊎ (failure ≡ Memory)) × Begins old new text
 
 -- on the error output nothing where all was done, and else the line of the error
 abbrev pub Tells : Result (Unit {0}) RunError → Result (Unit {0}) RunError → Option (List ℕ) → Option (List ℕ) → Type 0
@@ -51,9 +51,10 @@ abbrev pub Wrote : (List ℕ → Type 0) → (ℕ → Type 0) → Result (Unit {
 Wrote IsOutput IsBadLine (Ok done) old new = Writes IsOutput old new
 Wrote IsOutput IsBadLine (Err ReadFailed) old new = Keeps old new
 Wrote IsOutput IsBadLine (Err TooManyReads) old new = Keeps old new
-Wrote IsOutput IsBadLine (Err WriteFailed) old new = BeginsTo IsOutput old new
-Wrote IsOutput IsBadLine (Err Network) old new = Keeps old new
+Wrote IsOutput IsBadLine (Err (WriteFailed fault)) old new = BeginsTo IsOutput old new
+Wrote IsOutput IsBadLine (Err (Network fault)) old new = Keeps old new
 Wrote IsOutput IsBadLine (Err Memory) old new = Keeps old new
+Wrote IsOutput IsBadLine (Err TooFewDescriptors) old new = Keeps old new
 Wrote IsOutput IsBadLine (Err Unfinished) old new = Keeps old new
 Wrote IsOutput IsBadLine (Err (Line number)) old new = IsBadLine number × Keeps old new
 
@@ -116,7 +117,7 @@ pub record RunEnds (request : Request) (old new : Streams) (exit : Exit) : Type 
 -- a text is shown: all of it, or a beginning
 abbrev pub Shown : List ℕ → Result (Unit {0}) RunError → Option (List ℕ) → Option (List ℕ) → Type 0
 Shown text (Ok done) old new = Appends old new text
-Shown text (Err error) old new = (error ≡ WriteFailed) × Begins old new text
+Shown text (Err error) old new = IsOfWriting error × Begins old new text
 
 -- A text was shown, or the output failed; nothing was read.
 pub record ShowEnds (text : List ℕ) (old new : Streams) (exit : Exit) : Type 0 where

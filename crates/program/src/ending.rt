@@ -40,7 +40,7 @@ pub struct Exit {
 /// | 4 | memory was refused, or what became of the messages of a group is not known |
 /// | 5 | a line of the input is none that the command takes; nothing was run |
 ///
-/// What a broker's log says (`--log`) stands on the error output first. At 3, 4 and 5 it then has a line that says so: `device`, `memory`, `unfinished` or `input line N`. Where it fails, or memory for that line is
+/// What a broker's log says (`--log`) stands on the error output first. At 3, 4 and 5 it then has a line that says so: `device` or `memory`, and behind a colon why, where that is known; `unfinished` or `input line N`. Where it fails, or memory for that line is
 /// refused, it has a beginning of that, and [`Exit::told`] says so.
 ///
 /// The words are an error where one of them is no UTF-8 text, which ends as wrong words do, or where memory was refused for them.

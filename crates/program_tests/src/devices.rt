@@ -12,11 +12,12 @@ impl Read for Broken {
     }
 }
 
-/// A writer that takes so many bytes, one a write, and then fails.
+/// A writer that takes so many bytes, one a write, and then fails with an error of this kind.
 #[derive(Drop)]
 pub(crate) struct Narrow {
     pub(crate) taken: Vec<u8>,
     pub(crate) room: usize,
+    pub(crate) kind: ErrorKind,
 }
 
 impl Write for Narrow {
@@ -25,7 +26,7 @@ impl Write for Narrow {
             return Ok(0);
         };
         if self.taken.len() >= self.room {
-            return Err(io::Error::from(ErrorKind::BrokenPipe));
+            return Err(io::Error::from(self.kind));
         }
         self.taken.push(*byte)?;
         Ok(1)

@@ -6,7 +6,7 @@ use program::run;
 use std::alloc::{AllocError, Global};
 use std::io;
 use std::io::{ErrorKind, Read};
-use std::net::Net;
+use std::net::{Ipv4Addr, Net, SocketAddr, TcpListener, TcpStream};
 use std::rt::Clock;
 use std::sync::Wait;
 use std::test::Fail;
@@ -263,8 +263,40 @@ fn serving_until_killed_fails(rt: HostRuntime) -> Result<(), Fail> {
     assert_same(&rt, &ended.status, &3);
     assert_same(&rt, &reader.len(), &CONNECTED.len());
     assert_same(&rt, &ended.output.len(), &0);
-    assert_items(&rt, ended.errors.as_slice(), "device\n".as_bytes());
+    assert_items(
+        &rt,
+        ended.errors.as_slice(),
+        "device: the address is not one of this machine\n".as_bytes(),
+    );
     Ok(())
+}
+
+/// How a broker ends whose words name a port behind these that another listener has.
+fn ran_at_taken_port<
+    H: Threads + Wait + Net<Listener = TcpListener, Stream = TcpStream> + Clock + Sync,
+>(rt: &H, alloc: Global, words: &str) -> Option<Ended> {
+    let listener = TcpListener::bind(rt, SocketAddr::from((Ipv4Addr::LOCALHOST, 0))).ok()?;
+    let port = listener.local_addr().ok()?.port();
+    let line = format!(in alloc; "{words} {port}").ok()?;
+    ran(rt, alloc, line.as_str(), &mut Broken).ok()
+}
+
+/// A broker is told which of its ports is in use.
+#[test]
+fn a_port_in_use(rt: HostRuntime) {
+    let rows = [
+        ("share_broker serve --port", "device: the port is in use\n"),
+        (
+            "share_broker serve --port 0 --metrics",
+            "device: the port of the metrics is in use\n",
+        ),
+    ];
+    for (words, said) in rows.iter() {
+        let ended = ran_at_taken_port(&rt, rt.alloc(), words).expect(&rt, "a listener");
+        assert_same_at(&rt, &ended.status, &3, words);
+        assert_same(&rt, &ended.output.len(), &0);
+        assert_items(&rt, ended.errors.as_slice(), said.as_bytes());
+    }
 }
 
 /// Words that could not be read: one is no text, or memory was refused.
@@ -307,13 +339,14 @@ fn reader_fails(rt: HostRuntime) -> Result<(), Fail> {
     Ok(())
 }
 
-/// The output takes so much and then fails, of a command and of a text that is shown.
+/// The output takes so much and then fails, of a command, and of a text that is shown, where no space is left.
 #[test]
 fn output_fails(rt: HostRuntime) -> Result<(), Fail> {
     for room in 0..CONNACK.len() {
         let mut output = Narrow {
             taken: Vec::new(rt.alloc()),
             room,
+            kind: ErrorKind::BrokenPipe,
         };
         let mut errors = Vec::new(rt.alloc());
         let words = words_of(rt.alloc(), "share_broker solo")?;
@@ -332,6 +365,7 @@ fn output_fails(rt: HostRuntime) -> Result<(), Fail> {
     let mut output = Narrow {
         taken: Vec::new(rt.alloc()),
         room: 12,
+        kind: ErrorKind::StorageFull,
     };
     let mut errors = Vec::new(rt.alloc());
     let words = words_of(rt.alloc(), "share_broker --version")?;
@@ -345,7 +379,7 @@ fn output_fails(rt: HostRuntime) -> Result<(), Fail> {
     );
     assert_same(&rt, &exit.status, &3);
     assert_items(&rt, output.taken.as_slice(), "share_broker".as_bytes());
-    assert_items(&rt, errors.as_slice(), "device\n".as_bytes());
+    assert_items(&rt, errors.as_slice(), "device: no space left\n".as_bytes());
     Ok(())
 }
 
@@ -361,6 +395,7 @@ fn error_output_fails(rt: HostRuntime) -> Result<(), Fail> {
         let mut errors = Narrow {
             taken: Vec::new(rt.alloc()),
             room: 5,
+            kind: ErrorKind::BrokenPipe,
         };
         let words = words_of(rt.alloc(), line)?;
         let exit = run(

@@ -1,6 +1,8 @@
 //! `solo`: one client, from its stream in lines of hex digits to what it is sent.
-ghost use Rattle.std.specs.Prelude.{◌≡◌, ◌≢◌, ℕ, Err, IfErr, IfSome, OnOk};
+ghost use Rattle.std.specs.Prelude.{◌≡◌, ℕ, Err, IfErr, IfSome, OnOk};
 ghost use Rattle.std.specs.Io.KnownBytes.{Keeps};
+ghost use Rattle.text_io.specs.Status.{IsOfWriting};
+ghost use Rattle.text_io.specs.declared.error.DeviceFault.{DeviceFault};
 ghost use Rattle.drive.specs.Transcripts.{Writes, BeginsTo};
 ghost use Rattle.solo_output.specs.Output.{IsOutputFor};
 ghost use Rattle.solo_output.specs.Streams.{stream_of};
@@ -34,9 +36,9 @@ pub fn solo<R: Read, W: Write>(
     ensures bad_line { (line : ℕ) → result ≡ Err (RunError.Line line) → IfSome (R.remaining reader.old)
         (λ input. stream_of input ≡ Err line) }
     // Where the writer failed, what was written begins that output; at each other error nothing was written.
-    ensures begun { result ≡ Err RunError.WriteFailed → IfSome (R.remaining reader.old)
+    ensures begun { (fault : DeviceFault) → result ≡ Err (RunError.WriteFailed fault) → IfSome (R.remaining reader.old)
         (λ input. BeginsTo (IsOutputFor setup input) (W.contents writer.old) (W.contents writer.new)) }
-    ensures kept { IfErr result (λ error. error ≢ RunError.WriteFailed → Keeps (W.contents writer.old) (W.contents writer.new)) }
+    ensures kept { IfErr result (λ error. ¬ IsOfWriting error → Keeps (W.contents writer.old) (W.contents writer.new)) }
 {
     prove!(setup.groups.shares().len() <= 8);
     prove!(setup.capacity.get() <= 65_536);

@@ -4,7 +4,7 @@ use Rattle.std.specs.Prelude.{Any}
 use Rattle.std.proofs.lemmas.Bool.{false≢true}
 use Rattle.std.proofs.lemmas.List.Elements.{All-cons}
 use Rattle.text_io.specs.declared.error.RunError.{RunError}
-use Rattle.text_io.specs.declared.error.RunError.TheVariants.{ReadFailed, TooManyReads, WriteFailed, Network, Memory, Unfinished, Line}
+use Rattle.text_io.specs.declared.error.RunError.TheVariants.{ReadFailed, TooManyReads, WriteFailed, Network, Memory, TooFewDescriptors, Unfinished, Line}
 use Rattle.group_jobs.specs.declared.report.Report.{Report}
 use Rattle.group_queue.specs.declared.error.FinishError.{FinishError}
 use Rattle.group_queue.specs.declared.error.FinishError.TheVariants as refusals
@@ -31,9 +31,10 @@ pub with_report : (end : Result (Unit {0}) RunError) (report : Report) (reports 
 with_report (Ok done) report reports ends = All-cons IsOk (Ok report) reports refl ends
 with_report (Err ReadFailed) report reports ends = All-cons IsOk (Ok report) reports refl ends
 with_report (Err TooManyReads) report reports ends = ends
-with_report (Err WriteFailed) report reports ends = ends
-with_report (Err Network) report reports ends = All-cons IsOk (Ok report) reports refl ends
+with_report (Err (WriteFailed fault)) report reports ends = ends
+with_report (Err (Network fault)) report reports ends = All-cons IsOk (Ok report) reports refl ends
 with_report (Err Memory) report reports ends = (contains_more (Ok report) (Err refusals.Memory) reports ends.0, All-cons IsNotRefused (Ok report) reports (λ refused. refused) ends.1)
+with_report (Err TooFewDescriptors) report reports ends = ends
 with_report (Err Unfinished) report reports ends = any_more (Ok report) reports ends
 with_report (Err (Line number)) report reports ends = ends
 

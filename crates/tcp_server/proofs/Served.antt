@@ -1,11 +1,13 @@
 -- What was written, one part after another.
-use Rattle.std.proofs.Common.{◌≡◌, ℕ, List, ◌++◌, get_or, map, Option, Result, Ok, Err, sym, ap, subst, ◌∙◌, append_assoc, inl, inr, arith}
+use Rattle.std.proofs.Common.{◌≡◌, ◌⊎◌, ℕ, List, ◌++◌, get_or, map, Option, Result, Ok, Err, sym, ap, subst, ◌∙◌, append_assoc, inl, inr, arith}
 use Rattle.std.proofs.lemmas.Option.{slice_get-get_or}
 use Rattle.std.specs.Io.KnownBytes.{Appends}
 use Rattle.text_io.proofs.PassingLaws.{Appends-then, Keeps-refl}
+use Rattle.text_io.proofs.Failures.{write_failed}
 use Rattle.text_io.specs.Passing.{Begins}
+use Rattle.text_io.specs.Status.{IsOfWriting}
 use Rattle.text_io.specs.declared.error.RunError.{RunError}
-use Rattle.text_io.specs.declared.error.RunError.TheVariants.{ReadFailed, TooManyReads, WriteFailed, Network, Memory, Unfinished, Line}
+use Rattle.text_io.specs.declared.error.RunError.TheVariants.{ReadFailed, TooManyReads, WriteFailed, Network, Memory, TooFewDescriptors, Unfinished, Line}
 use Rattle.mqtt_topic.specs.Names.{Share}
 use Rattle.gate_word.specs.Seats.{GateId}
 use Rattle.group_queue.specs.declared.witness.Nobody.{Nobody}
@@ -25,9 +27,10 @@ pub whole : (line : List ℕ) (capacity workers max_inflight : ℕ) (given : Lis
 whole line capacity workers max_inflight given (Ok done) old new written = written
 whole line capacity workers max_inflight given (Err ReadFailed) old new written = written
 whole line capacity workers max_inflight given (Err TooManyReads) old new written = absurd written.reports.ends
-whole line capacity workers max_inflight given (Err WriteFailed) old new written = absurd written.reports.ends
-whole line capacity workers max_inflight given (Err Network) old new written = inr written
+whole line capacity workers max_inflight given (Err (WriteFailed fault)) old new written = absurd written.reports.ends
+whole line capacity workers max_inflight given (Err (Network fault)) old new written = inr written
 whole line capacity workers max_inflight given (Err Memory) old new written = inr written
+whole line capacity workers max_inflight given (Err TooFewDescriptors) old new written = absurd written.reports.ends
 whole line capacity workers max_inflight given (Err Unfinished) old new written = written
 whole line capacity workers max_inflight given (Err (Line number)) old new written = absurd written.reports.ends
 
@@ -57,17 +60,22 @@ begun line capacity workers max_inflight given old mid new text reports first se
 pub unreported : (line : List ℕ) (capacity workers max_inflight : ℕ) (given : List Share) (error : RunError) (old new : Option (List ℕ)) → EndsUnreported line error old new → IsServed line capacity workers max_inflight given (Err error) old new
 unreported line capacity workers max_inflight given ReadFailed old new ends = absurd ends
 unreported line capacity workers max_inflight given TooManyReads old new ends = absurd ends
-unreported line capacity workers max_inflight given WriteFailed old new ends = inl ends
-unreported line capacity workers max_inflight given Network old new ends = absurd ends
+unreported line capacity workers max_inflight given (WriteFailed fault) old new ends = inl ends
+unreported line capacity workers max_inflight given (Network fault) old new ends = absurd ends
 unreported line capacity workers max_inflight given Memory old new ends = inl ends
+unreported line capacity workers max_inflight given TooFewDescriptors old new ends = ends
 unreported line capacity workers max_inflight given Unfinished old new ends = absurd ends
 unreported line capacity workers max_inflight given (Line number) old new ends = absurd ends
 
 pub no_memory : (line : List ℕ) (error : RunError) (known : Option (List ℕ)) → error ≡ Memory → EndsUnreported line error known known
 no_memory line error known is = subst (λ e. EndsUnreported line e known known) (sym is) (inl (Keeps-refl known))
 
-pub not_written : (line : List ℕ) (error : RunError) (old new : Option (List ℕ)) → error ≡ WriteFailed → Begins old new line → EndsUnreported line error old new
-not_written line error old new is begins = subst (λ e. EndsUnreported line e old new) (sym is) begins
+pub not_set_up : (line : List ℕ) (error : RunError) (known : Option (List ℕ)) → (error ≡ Memory) ⊎ (error ≡ TooFewDescriptors) → EndsUnreported line error known known
+not_set_up line error known (inl is) = no_memory line error known is
+not_set_up line error known (inr is) = subst (λ e. EndsUnreported line e known known) (sym is) (Keeps-refl known)
+
+pub not_written : (line : List ℕ) (error : RunError) (old new : Option (List ℕ)) → IsOfWriting error → Begins old new line → EndsUnreported line error old new
+not_written line error old new of begins = subst (λ e. EndsUnreported line e old new) (sym (write_failed error of).1) begins
 
 pub not_told : (line : List ℕ) (error : RunError) (old new : Option (List ℕ)) → error ≡ Memory → Appends old new line → EndsUnreported line error old new
 not_told line error old new is written = subst (λ e. EndsUnreported line e old new) (sym is) (inr written)

@@ -1,4 +1,5 @@
 pub mod FirstPackets
 pub mod Lines
+pub mod Refusals
 pub mod Reporting
 pub mod Serving

@@ -2,7 +2,7 @@
 use Rattle.std.specs.Prelude.{◌≡◌, ◌⊎◌, Bool, true, false, List, [], All, Any, Contains, IsOk, Result, Ok, Err, ⊤, zip, flat_map, ℕ}
 use Rattle.mqtt_topic.specs.Names.{Share}
 use Rattle.text_io.specs.declared.error.RunError.{RunError}
-use Rattle.text_io.specs.declared.error.RunError.TheVariants.{ReadFailed, TooManyReads, WriteFailed, Network, Memory, Unfinished as NotKnown, Line}
+use Rattle.text_io.specs.declared.error.RunError.TheVariants.{ReadFailed, TooManyReads, WriteFailed, Network, Memory, TooFewDescriptors, Unfinished as NotKnown, Line}
 use Rattle.worker_pool.specs.declared.accepting.SourceEnd.{SourceEnd}
 use Rattle.worker_pool.specs.declared.accepting.SourceEnd.TheVariants as sources
 use Rattle.tcp_server.specs.declared.serving.ServingEnd.{ServingEnd}
@@ -41,9 +41,10 @@ abbrev pub EndsBy : {X : Type 0} → Result X RunError → List (Result Report F
 EndsBy (Ok done) reports = All IsOk reports
 EndsBy (Err ReadFailed) reports = All IsOk reports
 EndsBy (Err TooManyReads) reports = ⊥
-EndsBy (Err WriteFailed) reports = ⊥
-EndsBy (Err Network) reports = All IsOk reports
+EndsBy (Err (WriteFailed fault)) reports = ⊥
+EndsBy (Err (Network fault)) reports = All IsOk reports
 EndsBy (Err Memory) reports = Contains reports (Err refusals.Memory) × All (λ report. ¬ IsRefused report) reports
+EndsBy (Err TooFewDescriptors) reports = ⊥
 EndsBy (Err NotKnown) reports = Any IsRefused reports
 EndsBy (Err (Line number)) reports = ⊥
 

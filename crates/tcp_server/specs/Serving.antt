@@ -3,8 +3,9 @@ use Rattle.std.specs.Prelude.{◌≡◌, ◌⊎◌, ℕ, List, ◌++◌, codes, 
 use Rattle.std.specs.Fmt.{decimal}
 use Rattle.std.specs.Io.KnownBytes.{Appends, Keeps}
 use Rattle.text_io.specs.Passing.{Begins}
+use Rattle.text_io.specs.declared.error.DeviceFault.{DeviceFault}
 use Rattle.text_io.specs.declared.error.RunError.{RunError}
-use Rattle.text_io.specs.declared.error.RunError.TheVariants.{ReadFailed, TooManyReads, WriteFailed, Network, Memory, Unfinished, Line}
+use Rattle.text_io.specs.declared.error.RunError.TheVariants.{ReadFailed, TooManyReads, WriteFailed, Network, Memory, TooFewDescriptors, Unfinished, Line}
 use Rattle.mqtt_topic.specs.Names.{Share}
 use Rattle.tcp_edge.specs.Sources.{IsPortFor}
 use Rattle.tcp_server.specs.Reporting.{AreReports, AreReportsAt}
@@ -29,9 +30,10 @@ pub record BeginsToWrite (line : List ℕ) (capacity workers max_inflight : ℕ)
 abbrev pub EndsUnreported : List ℕ → RunError → Option (List ℕ) → Option (List ℕ) → Type 0
 EndsUnreported line ReadFailed old new = ⊥
 EndsUnreported line TooManyReads old new = ⊥
-EndsUnreported line WriteFailed old new = Begins old new line
-EndsUnreported line Network old new = ⊥
+EndsUnreported line (WriteFailed fault) old new = Begins old new line
+EndsUnreported line (Network fault) old new = ⊥
 EndsUnreported line Memory old new = Keeps old new ⊎ Appends old new line
+EndsUnreported line TooFewDescriptors old new = Keeps old new
 EndsUnreported line Unfinished old new = ⊥
 EndsUnreported line (Line number) old new = ⊥
 
@@ -40,13 +42,14 @@ abbrev pub IsServed : List ℕ → ℕ → ℕ → ℕ → List Share → Result
 IsServed line capacity workers max_inflight given (Ok done) old new = WritesAll line capacity workers max_inflight given (Ok done) old new
 IsServed line capacity workers max_inflight given (Err ReadFailed) old new = WritesAll line capacity workers max_inflight given (Err ReadFailed) old new
 IsServed line capacity workers max_inflight given (Err TooManyReads) old new = ⊥
-IsServed line capacity workers max_inflight given (Err WriteFailed) old new = Begins old new line ⊎ BeginsToWrite line capacity workers max_inflight given old new
-IsServed line capacity workers max_inflight given (Err Network) old new = Keeps old new ⊎ WritesAll line capacity workers max_inflight given (Err Network) old new
+IsServed line capacity workers max_inflight given (Err (WriteFailed fault)) old new = Begins old new line ⊎ BeginsToWrite line capacity workers max_inflight given old new
+IsServed line capacity workers max_inflight given (Err (Network fault)) old new = Keeps old new ⊎ WritesAll line capacity workers max_inflight given (Err (Network fault)) old new
 IsServed line capacity workers max_inflight given (Err Memory) old new = (Keeps old new ⊎ Appends old new line) ⊎ WritesAll line capacity workers max_inflight given (Err Memory) old new
+IsServed line capacity workers max_inflight given (Err TooFewDescriptors) old new = Keeps old new
 IsServed line capacity workers max_inflight given (Err Unfinished) old new = WritesAll line capacity workers max_inflight given (Err Unfinished) old new
 IsServed line capacity workers max_inflight given (Err (Line number)) old new = ⊥
 
 -- the same at the port that was asked for, or at any where that is 0; or it was not listened at, and nothing was written
 abbrev pub IsServedAt : ℕ → ℕ → ℕ → ℕ → List Share → Result (Unit {0}) RunError → Option (List ℕ) → Option (List ℕ) → Type 0
 IsServedAt asked capacity workers max_inflight given result old new =
-    ((port : ℕ) × IsPortFor asked port × IsServed (listening_line port) capacity workers max_inflight given result old new) ⊎ ((result ≡ Err Network) × Keeps old new)
+    ((port : ℕ) × IsPortFor asked port × IsServed (listening_line port) capacity workers max_inflight given result old new) ⊎ ((fault : DeviceFault) × (result ≡ Err (Network fault)) × Keeps old new)

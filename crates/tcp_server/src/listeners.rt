@@ -1,8 +1,12 @@
 //! Where a broker on TCP listens.
+ghost use Rattle.std.specs.Prelude.{◌≡◌};
+ghost use Rattle.tcp_server.specs.Refusals.{open_fault, metrics_fault};
+
 use metrics::{MetricsServer, OpenError};
 use std::alloc::Global;
 use std::net::{Ipv4Addr, Net};
-use tcp_edge::TcpSource;
+use tcp_edge::{OpenError as ListenError, TcpSource};
+use text_io::DeviceFault;
 
 /// An address of this machine, and the ports of it at which a broker listens.
 #[derive(Clone, Copy, Debug, PartialEq, Eq)]
@@ -30,6 +34,29 @@ impl ListenAt {
         }
         let server = MetricsServer::open(rt, alloc, self.address, self.metrics)?;
         Ok(Some(server))
+    }
+}
+
+/// Why a port was not listened at.
+pub(crate) fn fault_of(error: ListenError) -> DeviceFault
+    ensures { result ≡ open_fault error }
+{
+    match error {
+        ListenError::PortInUse => DeviceFault::PortInUse,
+        ListenError::AddressElsewhere => DeviceFault::AddressElsewhere,
+        ListenError::NotPermitted => DeviceFault::NotPermitted,
+        ListenError::TooFewDescriptors => DeviceFault::TooFewDescriptors,
+        ListenError::System => DeviceFault::Other,
+    }
+}
+
+/// Why the port of the metrics was not listened at.
+pub(crate) fn metrics_fault_of(error: ListenError) -> DeviceFault
+    ensures { result ≡ metrics_fault error }
+{
+    match error {
+        ListenError::PortInUse => DeviceFault::MetricsPortInUse,
+        _ => fault_of(error),
     }
 }
 

@@ -79,7 +79,7 @@ impl<'a, R: Net + SystemClock> Lobby<'a, R> {
     ///
     /// # Errors
     ///
-    /// [`ReactorError::Memory`], [`ReactorError::System`]. The listener is dropped then.
+    /// [`ReactorError::Memory`], [`ReactorError::TooFewDescriptors`], [`ReactorError::System`]. The listener is dropped then.
     pub(crate) fn open(
         rt: &'a R,
         alloc: Global,
@@ -89,7 +89,7 @@ impl<'a, R: Net + SystemClock> Lobby<'a, R> {
         let events = Events::with_capacity(alloc, MOST_EVENTS).map_err(|_| ReactorError::Memory)?;
         let silent = nobody(alloc)?;
         let front = vec![in alloc; 0; MOST_AWAITED].map_err(|_| ReactorError::Memory)?;
-        let poll = Poll::new(rt).map_err(|_| ReactorError::System)?;
+        let poll = Poll::new(rt).map_err(|e| ReactorError::of(&e))?;
         let opened = Instant::now(rt).map_err(|_| ReactorError::System)?;
         let answer = poll
             .registry()
@@ -146,6 +146,7 @@ impl<'a, R: SystemClock> Lobby<'a, R> {
             &mut self.listener,
             &self.poll,
             &mut self.silent,
+            &mut self.front,
             &mut self.addresses,
             &mut self.taken_in,
             now,
@@ -206,12 +207,13 @@ fn take_in(
     listener: &mut TcpSource,
     poll: &Poll,
     silent: &mut [Option<Silent>],
+    front: &mut [u8],
     addresses: &mut Option<Addresses>,
     taken_in: &mut u64,
     now: u64,
 ) -> bool {
     for _ in 0..MOST_SILENT {
-        let Some(place) = place_for_one(silent) else {
+        let Some(place) = place_for_one(silent, front) else {
             return false;
         };
         match next_of(listener) {
@@ -274,11 +276,29 @@ fn close(poll: &Poll, silent: Silent) {
 }
 
 /// The place for one more: one in which nobody is, or else that of the one that came first of those whose first packet has not come. `None` where all of them have come.
-fn place_for_one(silent: &[Option<Silent>]) -> Option<usize> {
-    silent
-        .iter()
-        .position(|seat| seat.is_none())
-        .or_else(|| first_come(silent))
+fn place_for_one(silent: &mut [Option<Silent>], front: &mut [u8]) -> Option<usize> {
+    let free = silent.iter().position(|seat| seat.is_none());
+    if free.is_some() {
+        return free;
+    }
+    for _ in 0..MOST_SILENT {
+        let place = first_come(silent)?;
+        if !is_found_ready(silent, place, front) {
+            return Some(place);
+        }
+    }
+    None
+}
+
+/// Whether the first packet of the connection in a place has come since the last wait; it is noted then. So nobody is closed whose CONNECT is there.
+fn is_found_ready(silent: &mut [Option<Silent>], place: usize, front: &mut [u8]) -> bool {
+    match silent.get_mut(place) {
+        Some(Some(one)) => {
+            one.is_ready = has_come(&one.stream, front);
+            one.is_ready
+        }
+        _ => false,
+    }
 }
 
 /// The place of the one that came first of those whose first packet has not come.

@@ -13,7 +13,7 @@ use crate::addresses::Addresses;
 use crate::attending::attend;
 use crate::beside::Metrics;
 use crate::drain::Drain;
-use crate::listeners::{ListenAt, Listeners};
+use crate::listeners::{ListenAt, Listeners, fault_of, metrics_fault_of};
 use crate::lobby::Lobby;
 use crate::logging::BrokerLog;
 use crate::outcome::Reported;
@@ -36,7 +36,7 @@ use std::sync::Wait;
 use std::sync::atomic::AtomicBool;
 use std::thread::Threads;
 use tcp_edge::{ReactorError, TcpSource};
-use text_io::{RunError, write_all};
+use text_io::{DeviceFault, RunError, write_all};
 use threaded_broker::{Closers, OpenBroker};
 use worker_pool::Closer;
 
@@ -59,7 +59,8 @@ pub enum ServingEnd {
 /// [`RunError::Network`]: the address was not listened at, or not at the port of the metrics, and nothing was written; or connections were not accepted any more: then the broker closed at once,
 /// and all was written. [`RunError::ReadFailed`]: the input failed, and all was written. [`RunError::WriteFailed`]: a beginning was written.
 /// [`RunError::Unfinished`]: the end of a group was refused; [`RunError::Memory`]: there was no memory for the report of a group: then the lines of the
-/// others were written. [`RunError::Memory`]: an allocation failed before that, and at most the first line was written.
+/// others were written. [`RunError::Memory`]: an allocation failed before that, and at most the first line was written. [`RunError::TooFewDescriptors`]: the workers got no place to
+/// wait at, and nothing was written.
 pub fn serve_at<R: Threads + Wait + Net + SystemClock + Sync, I: Read + Send, O: Write>(
     rt: &R,
     alloc: Global,
@@ -75,13 +76,16 @@ pub fn serve_at<R: Threads + Wait + Net + SystemClock + Sync, I: Read + Send, O:
     ensures written { IsServedAt at.port settings.capacity settings.workers settings.max_inflight groups.now result (O.contents output.old) (O.contents output.new) }
     ensures read { IfOk result (λ _. IsAtEnd (I.remaining input.new)) }
 {
-    let Ok(source) = TcpSource::open(rt, at.address, at.port) else {
-        return Err(RunError::Network);
+    let source = match TcpSource::open(rt, at.address, at.port) {
+        Ok(source) => source,
+        Err(error) => return Err(RunError::Network(fault_of(error))),
     };
     let metrics = match at.open_metrics(rt, alloc) {
         Ok(metrics) => metrics,
         Err(OpenError::Memory) => return Err(RunError::Memory),
-        Err(OpenError::System) => return Err(RunError::Network),
+        Err(OpenError::NotListening(error)) => {
+            return Err(RunError::Network(metrics_fault_of(error)));
+        }
     };
     let listeners = Listeners { source, metrics };
     serve_with(rt, alloc, settings, groups, listeners, log, input, output)
@@ -108,7 +112,10 @@ pub fn serve_with<R: Threads + Wait + Net + SystemClock + Sync, I: Read + Send, 
     let lobby = match Lobby::open(rt, alloc, source, addresses_of(alloc, settings.per_address)) {
         Ok(lobby) => lobby,
         Err(ReactorError::Memory) => return Err(RunError::Memory),
-        Err(_) => return Err(RunError::Network),
+        Err(ReactorError::TooFewDescriptors) => {
+            return Err(RunError::Network(DeviceFault::TooFewDescriptors));
+        }
+        Err(_) => return Err(RunError::Network(DeviceFault::Other)),
     };
     let Ok((gate, seats)) = Gate::open(alloc, usize::from(settings.workers) + 3) else {
         return Err(RunError::Memory);
@@ -161,7 +168,7 @@ fn answer_of(end: Result<ServingEnd, RunError>) -> Result<(), RunError>
     match end {
         Ok(ServingEnd::Ended) => Ok(()),
         Ok(ServingEnd::InputFailed) => Err(RunError::ReadFailed),
-        Ok(ServingEnd::NotAccepted) => Err(RunError::Network),
+        Ok(ServingEnd::NotAccepted) => Err(RunError::Network(DeviceFault::Other)),
         Err(error) => Err(error),
     }
 }
@@ -272,7 +279,7 @@ fn live_with<
     };
     let broker_log = BrokerLog::of(log, alloc);
     tell_shares(&broker_log, groups);
-    let Some(setup) = socket_setup(
+    let setup = match socket_setup(
         rt,
         alloc,
         count,
@@ -280,9 +287,12 @@ fn live_with<
         &drain,
         &places,
         &broker_log,
-    ) else {
-        broker.abandon();
-        return Err(RunError::Memory);
+    ) {
+        Ok(setup) => setup,
+        Err(error) => {
+            broker.abandon();
+            return Err(error);
+        }
     };
     let service = MetricsService {
         rt,

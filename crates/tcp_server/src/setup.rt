@@ -1,5 +1,6 @@
 //! Where the workers of a broker wait.
-ghost use Rattle.std.specs.Prelude.{◌≡◌, length, IfSome};
+ghost use Rattle.std.specs.Prelude.{◌≡◌, ◌⊎◌, length, IfOk, IfErr};
+ghost use Rattle.text_io.specs.declared.error.RunError.TheVariants.{Memory, TooFewDescriptors};
 
 use crate::client_stream::ClientStream;
 use crate::drain::{Drain, DrainPart};
@@ -14,14 +15,19 @@ use std::alloc::Global;
 use std::net::Net;
 use std::rt::Clock as SystemClock;
 use std::time::Instant;
-use tcp_edge::{Reactor, Socket};
+use tcp_edge::{Reactor, ReactorError, Socket};
+use text_io::RunError;
 use worker_bells::share_of;
 use worker_pool::PoolSetup;
 
 /// A reactor with a clock and an alarm for each worker.
 pub(crate) type SocketSetup<'a, R> = PoolSetup<Socket<ClientStream>, SocketPoller<'a, R>>;
 
-/// What so many workers need, whose clocks begin now, and who drain together. Each puts what it counts into the place of its number, where there is one, and all say what they do to this log. `None` where an allocation fails, or the system refuses.
+/// What so many workers need, whose clocks begin now, and who drain together. Each puts what it counts into the place of its number, where there is one, and all say what they do to this log.
+///
+/// # Errors
+///
+/// [`RunError::TooFewDescriptors`], and [`RunError::Memory`] where an allocation fails, or the system refuses for another reason.
 pub(crate) fn socket_setup<'a, R: Net + SystemClock>(
     rt: &'a R,
     alloc: Global,
@@ -30,15 +36,22 @@ pub(crate) fn socket_setup<'a, R: Net + SystemClock>(
     drain: &'a Drain,
     places: &'a [SharedCounts],
     log: &'a BrokerLog<'a>,
-) -> Option<SocketSetup<'a, R>>
-    ensures count { IfSome result (λ setup. length setup.unused_pollers.items ≡ count) }
-    ensures limit { IfSome result (λ setup. setup.max_inflight ≡ max_inflight) }
+) -> Result<SocketSetup<'a, R>, RunError>
+    ensures count { IfOk result (λ setup. length setup.unused_pollers.items ≡ count) }
+    ensures limit { IfOk result (λ setup. setup.max_inflight ≡ max_inflight) }
+    ensures cause { IfErr result (λ error. (error ≡ Memory) ⊎ (error ≡ TooFewDescriptors)) }
 {
-    let start = Instant::now(rt).ok()?;
-    let mut unused_pollers = Vec::with_capacity(alloc, count).ok()?;
-    let mut alarms = Vec::with_capacity(alloc, count).ok()?;
+    let Ok(start) = Instant::now(rt) else {
+        return Err(RunError::Memory);
+    };
+    let mut unused_pollers = Vec::with_capacity(alloc, count)?;
+    let mut alarms = Vec::with_capacity(alloc, count)?;
     'reactors: for worker in 0..count {
-        let (reactor, alarm) = Reactor::open(rt, alloc).ok()?;
+        let (reactor, alarm) = match Reactor::open(rt, alloc) {
+            Ok(opened) => opened,
+            Err(ReactorError::TooFewDescriptors) => return Err(RunError::TooFewDescriptors),
+            Err(_) => return Err(RunError::Memory),
+        };
         let poller = SocketPoller::new(
             reactor,
             Elapsed::since(rt, start),
@@ -46,10 +59,10 @@ pub(crate) fn socket_setup<'a, R: Net + SystemClock>(
             MetricsPart::of(places.get(worker)),
             LogPart::of(log, usize::from(share_of(count)).saturating_mul(worker)),
         );
-        unused_pollers.push(UnusedPoller::new(poller)).ok()?;
-        alarms.push(alarm).ok()?;
+        unused_pollers.push(UnusedPoller::new(poller))?;
+        alarms.push(alarm)?;
     }
-    Some(PoolSetup {
+    Ok(PoolSetup {
         unused_pollers,
         alarms,
         max_inflight,

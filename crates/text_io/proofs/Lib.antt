@@ -1,3 +1,4 @@
 pub mod Cutting
 pub mod PassingLaws
 pub mod Joining
+pub mod Failures

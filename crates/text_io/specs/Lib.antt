@@ -1,3 +1,4 @@
+pub mod Faults
 pub mod Status
 pub mod Lines
 pub mod Passing

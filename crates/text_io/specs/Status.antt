@@ -2,15 +2,17 @@
 use Rattle.std.specs.Prelude.{ℕ, codes, List, ◌++◌}
 use Rattle.std.specs.Fmt.{decimal}
 use Rattle.text_io.specs.declared.error.RunError.{RunError}
-use Rattle.text_io.specs.declared.error.RunError.TheVariants.{ReadFailed, TooManyReads, WriteFailed, Network, Memory, Unfinished, Line}
+use Rattle.text_io.specs.declared.error.RunError.TheVariants.{ReadFailed, TooManyReads, WriteFailed, Network, Memory, TooFewDescriptors, Unfinished, Line}
+use Rattle.text_io.specs.Faults.{device_line}
 
--- 3 where the reader, the writer or the network failed, or the input had no end; 4 for lack of memory, or where the end of a group is not known; 5 for a line that the program does not take
+-- 3 where the reader, the writer or the network failed, or the input had no end; 4 for lack of memory or of descriptors for the workers, or where the end of a group is not known; 5 for a line that the program does not take
 abbrev pub status_of : RunError → ℕ
 status_of ReadFailed = 3
 status_of TooManyReads = 3
-status_of WriteFailed = 3
-status_of Network = 3
+status_of (WriteFailed fault) = 3
+status_of (Network fault) = 3
 status_of Memory = 4
+status_of TooFewDescriptors = 4
 status_of Unfinished = 4
 status_of (Line number) = 5
 
@@ -18,9 +20,10 @@ status_of (Line number) = 5
 abbrev pub error_line : RunError → List ℕ
 error_line ReadFailed = codes "device\n"
 error_line TooManyReads = codes "device\n"
-error_line WriteFailed = codes "device\n"
-error_line Network = codes "device\n"
+error_line (WriteFailed fault) = device_line fault
+error_line (Network fault) = device_line fault
 error_line Memory = codes "memory\n"
+error_line TooFewDescriptors = codes "memory: too few file descriptors\n"
 error_line Unfinished = codes "unfinished\n"
 error_line (Line number) = codes "input line " ++ decimal number ++ codes "\n"
 
@@ -28,8 +31,20 @@ error_line (Line number) = codes "input line " ++ decimal number ++ codes "\n"
 abbrev pub IsOfReading : RunError → Type 0
 IsOfReading ReadFailed = Unit {0}
 IsOfReading TooManyReads = Unit {0}
-IsOfReading WriteFailed = ⊥
-IsOfReading Network = ⊥
+IsOfReading (WriteFailed fault) = ⊥
+IsOfReading (Network fault) = ⊥
 IsOfReading Memory = Unit {0}
+IsOfReading TooFewDescriptors = ⊥
 IsOfReading Unfinished = ⊥
 IsOfReading (Line number) = ⊥
+
+-- the writer failed
+abbrev pub IsOfWriting : RunError → Type 0
+IsOfWriting ReadFailed = ⊥
+IsOfWriting TooManyReads = ⊥
+IsOfWriting (WriteFailed fault) = Unit {0}
+IsOfWriting (Network fault) = ⊥
+IsOfWriting Memory = ⊥
+IsOfWriting TooFewDescriptors = ⊥
+IsOfWriting Unfinished = ⊥
+IsOfWriting (Line number) = ⊥

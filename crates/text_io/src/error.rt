@@ -5,6 +5,25 @@ ghost use Rattle.text_io.specs.declared.error.RunError.TheVariants.{Memory};
 
 use std::alloc::{AllocError, AllocFailed};
 
+/// Why a device or the network failed, as far as the system says.
+#[derive(Clone, Copy, Debug, PartialEq, Eq, Drop)]
+pub enum DeviceFault {
+    /// Another listener has the port.
+    PortInUse,
+    /// Another listener has the port of the metrics.
+    MetricsPortInUse,
+    /// The address is not one of this machine.
+    AddressElsewhere,
+    /// The process, or the system, has as many file descriptors as it may.
+    TooFewDescriptors,
+    /// The process may not do that, as to listen at a port below 1024.
+    NotPermitted,
+    /// What is written to is full.
+    NoSpace,
+    /// None of these.
+    Other,
+}
+
 /// Why a run did not end, and the status that the program ends with.
 #[derive(Clone, Copy, Debug, PartialEq, Eq, Drop)]
 pub enum RunError {
@@ -13,11 +32,13 @@ pub enum RunError {
     /// 3: 2^20 reads did not reach the input's end.
     TooManyReads,
     /// 3: the writer failed.
-    WriteFailed,
+    WriteFailed(DeviceFault),
     /// 3: an address was not listened at, or connections were not accepted.
-    Network,
+    Network(DeviceFault),
     /// 4: an allocation was refused.
     Memory,
+    /// 4: there were too few file descriptors for the workers.
+    TooFewDescriptors,
     /// 4: what became of the messages of a group is not known.
     Unfinished,
     /// 5: this line of the input, counted from 1, is none that the program takes.
@@ -32,9 +53,9 @@ impl RunError {
         match self {
             RunError::ReadFailed
             | RunError::TooManyReads
-            | RunError::WriteFailed
-            | RunError::Network => 3,
-            RunError::Memory | RunError::Unfinished => 4,
+            | RunError::WriteFailed(_)
+            | RunError::Network(_) => 3,
+            RunError::Memory | RunError::TooFewDescriptors | RunError::Unfinished => 4,
             RunError::Line(_) => 5,
         }
     }

@@ -13,7 +13,7 @@ pub mod laws;
 mod output;
 mod telling;
 
-pub use error::RunError;
+pub use error::{DeviceFault, RunError};
 pub use input::{read_all, split_line};
 pub use output::write_all;
 pub use telling::tell;

@@ -2,10 +2,22 @@
 ghost use Rattle.std.specs.Prelude.{◌≡◌, OnOk, OnErr, IfErr};
 ghost use Rattle.std.specs.Io.KnownBytes.{Appends};
 ghost use Rattle.text_io.specs.Passing.{Begins};
-ghost use Rattle.text_io.specs.declared.error.RunError.TheVariants.{WriteFailed};
+ghost use Rattle.text_io.specs.Faults.{fault_of_write};
+ghost use Rattle.text_io.specs.Status.{IsOfWriting};
 
-use crate::error::RunError;
+use crate::error::{DeviceFault, RunError};
 use std::io::{ErrorKind, Write};
+
+/// What it means that a write failed so.
+fn not_written(kind: ErrorKind) -> RunError
+    ensures { result ≡ RunError.WriteFailed (fault_of_write kind) }
+{
+    let fault = match kind {
+        ErrorKind::StorageFull | ErrorKind::QuotaExceeded => DeviceFault::NoSpace,
+        _ => DeviceFault::Other,
+    };
+    RunError::WriteFailed(fault)
+}
 
 /// Writes all of the bytes. At a failure the writer has a beginning of them.
 //
@@ -13,7 +25,7 @@ use std::io::{ErrorKind, Write};
 fn write_out<W: Write>(writer: &mut W, bytes: &[u8]) -> Result<(), RunError>
     ensures ok { OnOk result (Appends (W.contents writer.old) (W.contents writer.new) bytes.now) }
     ensures err { OnErr result (Begins (W.contents writer.old) (W.contents writer.new) bytes.now) }
-    ensures cause { IfErr result (λ error. error ≡ WriteFailed) }
+    ensures cause { IfErr result IsOfWriting }
 {
     let mut rest = bytes;
     for _ in 0..u64::MAX {
@@ -21,13 +33,13 @@ fn write_out<W: Write>(writer: &mut W, bytes: &[u8]) -> Result<(), RunError>
             return Ok(());
         }
         match writer.write(rest) {
-            Ok(0) => return Err(RunError::WriteFailed),
+            Ok(0) => return Err(RunError::WriteFailed(DeviceFault::Other)),
             Ok(count) => rest = &rest[count..],
             Err(e) if e.kind() == ErrorKind::Interrupted => {}
-            Err(_) => return Err(RunError::WriteFailed),
+            Err(e) => return Err(not_written(e.kind())),
         }
     }
-    Err(RunError::WriteFailed)
+    Err(RunError::WriteFailed(DeviceFault::Other))
 }
 
 /// Writes all of a text. At a failure the writer has a beginning of it.
@@ -38,11 +50,11 @@ fn write_out<W: Write>(writer: &mut W, bytes: &[u8]) -> Result<(), RunError>
 pub fn write_all<W: Write>(writer: &mut W, text: &[u8]) -> Result<(), RunError>
     ensures ok { OnOk result (Appends (W.contents writer.old) (W.contents writer.new) text.now) }
     ensures err { OnErr result (Begins (W.contents writer.old) (W.contents writer.new) text.now) }
-    ensures cause { IfErr result (λ error. error ≡ WriteFailed) }
+    ensures cause { IfErr result IsOfWriting }
 {
     write_out(writer, text)?;
     match writer.flush() {
         Ok(()) => Ok(()),
-        Err(_) => Err(RunError::WriteFailed),
+        Err(e) => Err(not_written(e.kind())),
     }
 }

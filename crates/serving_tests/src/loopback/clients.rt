@@ -18,7 +18,7 @@ use std::sync::atomic::{AtomicBool, Ordering};
 use std::thread::Threads;
 use std::time::Duration;
 use tcp_server::{ListenAt, ServeSettings, serve_at};
-use text_io::RunError;
+use text_io::{DeviceFault, RunError};
 
 /// What clients saw that published so many jobs, of which so many were acknowledged and so many are held.
 pub(crate) fn counts_of(accepted: u64, acknowledged: u64, held: u64) -> Counts {
@@ -339,5 +339,10 @@ fn served_twice<R: Threads + Wait + Net<Listener = TcpListener, Stream = TcpStre
 
 #[test]
 fn a_port_in_use(rt: HostRuntime) {
-    assert!(rt; matches!(served_twice(&rt, rt.alloc()), Some(Err(RunError::Network))));
+    assert!(rt;
+        matches!(
+            served_twice(&rt, rt.alloc()),
+            Some(Err(RunError::Network(DeviceFault::PortInUse)))
+        )
+    );
 }

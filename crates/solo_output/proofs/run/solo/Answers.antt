@@ -27,7 +27,7 @@ returns-clause-bad_line g c line is =
     IfSome_then (g.R.Read.remaining c.args.reader.now) (c.drive_client.ensures.bad_line line is) (λ input named. (bad_lines input line).0 named)
 
 pub returns-clause-begun : goal.returns-clause-begun
-returns-clause-begun g c is =
+returns-clause-begun g c fault is =
     let fits = fits_of c.shares.result.now c.args.setup.groups c.get.result c.args.setup.capacity c.shares.ensures.value c.shares.ensures.few c.get.ensures.value c.get.ensures.within.1 in
-    IfSome_then (g.R.Read.remaining c.args.reader.now) (c.drive_client.ensures.begun is)
+    IfSome_then (g.R.Read.remaining c.args.reader.now) (c.drive_client.ensures.begun fault is)
     (λ input begins. begun c.args.setup input (g.W.Write.contents c.args.writer.now) (g.W.Write.contents c.drive_client.new.writer) fits begins)

@@ -1,6 +1,7 @@
 -- What is written by how the broker ended.
 use Rattle.std.proofs.Common.{◌≡◌, Err, inr, sym, ap, subst, ◌∙◌}
 use Rattle.std.specs.Io.KnownBytes.{Appends}
+use Rattle.text_io.proofs.Failures.{write_failed}
 use Rattle.text_io.specs.Passing.{Begins}
 use Rattle.tcp_server.specs.Serving.{listening_line, IsServed}
 use Rattle.broker_groups.specs.Openings.{named_by}
@@ -14,7 +15,7 @@ returns-clause-written g c =
     let told = c.in_ok-reported-in-Ok-line.reported in
     let reports = of_capacity told.end (named_by c.in-Ok-open-2.opened.groups.items) c.args.settings.capacity c.args.settings.workers c.args.settings.max_inflight c.args.groups.now told.text.items opened c.in_ok-reported-in-Ok-line.ensures.reported in
     subst (λ error. IsServed (listening_line c.args.listeners.source.port) c.args.settings.capacity c.args.settings.workers c.args.settings.max_inflight c.args.groups.now (Err error) (g.O.Write.contents c.args.output.now) (g.O.Write.contents c.write_all.new.writer))
-    (sym c.in-Err-write_all.ensures.cause)
+    (sym (write_failed c.in-Err-write_all.error c.in-Err-write_all.ensures.cause).1)
     (inr (begun (listening_line c.args.listeners.source.port) c.args.settings.capacity c.args.settings.workers c.args.settings.max_inflight c.args.groups.now (g.O.Write.contents c.args.output.now) (g.O.Write.contents c.live.new.output) (g.O.Write.contents c.write_all.new.writer)
     told.text.items reports.reports
     (subst (λ text. Appends (g.O.Write.contents c.args.output.now) (g.O.Write.contents c.live.new.output) text) line c.in_ok-reported-in-Ok-line.ensures.written)
