@@ -148,11 +148,13 @@ function drawGroup(samples, group, now) {
 }
 
 function drawRefused(samples) {
+  const body = find('refusals'), before = body.rows.length;
   for (const it of samples.filter(it => it.name in PACKETS && it.labels.code in CODES && it.number > 0)) {
     const { code } = it.labels;
     find('refused').hidden = false;
-    row(find('refusals'), `${PACKETS[it.name]} ${code}, ${CODES[code]}`, 1).querySelector('td').textContent = shown(it.number);
+    row(body, `${PACKETS[it.name]} ${code}, ${CODES[code]}`, 1).querySelector('td').textContent = shown(it.number);
   }
+  if (body.rows.length > before) body.append(...[...body.rows].sort((one, other) => one.dataset.key < other.dataset.key ? -1 : 1));
 }
 
 function drawRest(samples) {
