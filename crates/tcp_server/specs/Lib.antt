@@ -1,4 +1,3 @@
-pub mod FirstPackets
 pub mod Lines
 pub mod Refusals
 pub mod Reporting

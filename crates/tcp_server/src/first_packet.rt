@@ -1,29 +1,58 @@
 //! How much of a connection's first packet has come.
-ghost use Rattle.std.specs.Prelude.{◌≡◌};
-ghost use Rattle.tcp_server.specs.FirstPackets.{is_awaited};
+ghost use Rattle.std.specs.Prelude.{◌≡◌, ◌<◌, length, true};
+ghost use Rattle.mqtt_wire.specs.Stream.{IsOpen};
 
-use mqtt_fields::variable_byte_integer;
+use crate::client_stream::ClientStream;
+use mqtt_wire::Splitter;
+use std::alloc::{AllocError, Global};
+use std::io::ErrorKind;
 
-/// The first byte of a CONNECT (section 3.1.1).
-const CONNECT: u8 = 0x10;
+/// So many bytes of a first packet are waited for at most: a socket's buffer has room for them, as systems set it.
+const MOST_AWAITED: usize = 4_096;
 
-/// So many bytes of a CONNECT are waited for at most: they fit every socket's buffer.
-pub(crate) const MOST_AWAITED: usize = 4_096;
-
-/// Whether more of a stream that begins with these bytes is waited for: they are the beginning of a CONNECT, and neither all of it nor [`MOST_AWAITED`] bytes.
-/// What can be no CONNECT is not waited for, nor is one whose Remaining Length is malformed (section 1.5.5).
-pub(crate) fn is_awaited(start: &[u8]) -> bool
-    ensures { result ≡ is_awaited start.now }
+/// Whether more of a stream that begins with these bytes is waited for: they begin a packet, show no fault, and are neither all of it nor [`MOST_AWAITED`] bytes. Where an
+/// allocation for the look fails, nothing is waited for.
+pub(crate) fn is_awaited(alloc: Global, start: &[u8]) -> bool
+    ensures open { result ≡ true → IsOpen start.now }
+    ensures few { result ≡ true → length start.now < 4096 }
 {
-    let [first, behind @ ..] = start else {
-        return true;
-    };
-    if *first != CONNECT || behind.len() >= MOST_AWAITED - 1 {
+    if start.len() >= MOST_AWAITED {
         return false;
     }
-    match variable_byte_integer(3, behind) {
-        Ok(Some((remaining, rest))) => rest.len() < remaining as usize,
+    let mut splitter = Splitter::new(alloc);
+    if splitter.feed(start).is_err() {
+        return false;
+    }
+    match splitter.next() {
         Ok(None) => true,
+        Ok(Some(packet)) => {
+            drop(packet);
+            false
+        }
         Err(_) => false,
+    }
+}
+
+/// Who looks at what streams begin with.
+#[derive(Drop)]
+pub(crate) struct FirstLook {
+    alloc: Global,
+    front: Vec<u8>,
+}
+
+impl FirstLook {
+    /// One with room for what is waited for.
+    pub(crate) fn new(alloc: Global) -> Result<FirstLook, AllocError> {
+        let front = vec![in alloc; 0; MOST_AWAITED]?;
+        Ok(FirstLook { alloc, front })
+    }
+
+    /// Whether the first packet of a stream has come, as far as it is waited for; or none will. What was sent stays to be read.
+    pub(crate) fn has_come(&mut self, stream: &ClientStream) -> bool {
+        match stream.peek(&mut self.front) {
+            Ok([]) => true,
+            Ok(start) => !is_awaited(self.alloc, start),
+            Err(error) => error.kind() != ErrorKind::WouldBlock,
+        }
     }
 }

@@ -20,6 +20,7 @@ mod serving;
 mod settings;
 mod setup;
 mod socket_poller;
+mod waiting;
 mod watching;
 
 pub use client_stream::ClientStream;

@@ -1,16 +1,16 @@
 //! A listener that waits for connections, and keeps those apart whose first packet has not come yet.
-ghost use Rattle.std.specs.Prelude.{◌≡◌, None, IfSome};
-ghost use Rattle.transport.specs.Counting.{ComesNew, MayCome, after_arrival, no_counts};
+ghost use Rattle.std.specs.Prelude.{◌≡◌, None};
+ghost use Rattle.transport.specs.Counting.{ComesNew, MayCome, after_arrival};
 
 use crate::addresses::Addresses;
 use crate::client_stream::ClientStream;
-use crate::first_packet::{MOST_AWAITED, is_awaited};
-use conn_rules::CONNECT_TIMEOUT;
-use mio::event::Source as MioSource;
+use crate::first_packet::FirstLook;
+use crate::waiting::{
+    MOST_WAITING, Waiting, close_late, keep, nobody, note_ready, place_for_one, take_ready,
+};
 use mio::net::TcpStream;
 use mio::{Events, Interest, Poll, Token};
 use std::alloc::Global;
-use std::io::ErrorKind;
 use std::marker::Model;
 use std::net::Net;
 use std::rt::Clock as SystemClock;
@@ -18,34 +18,18 @@ use std::time::{Duration, Instant};
 use tcp_edge::{ReactorError, Socket, TcpSource};
 use transport::{Arrival, Source, Tally};
 
-/// How many connections whose first packet has not come there are at most: a quarter of all that a broker has. Where there are as many, the one that came first is closed for
-/// a newcomer. So whoever connects and sends nothing, or half a CONNECT, keeps nobody else out.
-const MOST_SILENT: usize = 256;
-
 /// For how many milliseconds a call waits at most, unless it is told otherwise.
 const PATIENCE: u64 = 100;
 
 /// What one wait can tell of: the listener, and each connection that waits here.
-const MOST_EVENTS: usize = MOST_SILENT + 1;
+const MOST_EVENTS: usize = MOST_WAITING + 1;
 
 /// The token of the listener; the connection in place n has the token n.
-const LISTENER: usize = MOST_SILENT;
+const LISTENER: usize = MOST_WAITING;
 
-/// A connection whose first packet had not come when it was looked at last.
-#[derive(Drop)]
-struct Silent {
-    stream: ClientStream,
-    /// How many came before it.
-    order: u64,
-    /// When it came, in milliseconds since the lobby was opened.
-    came: u64,
-    /// Its first packet has come, or what came is none, or it has ended.
-    is_ready: bool,
-}
-
-/// A source over a listener. It gives a connection once that has sent a CONNECT, or [`MOST_AWAITED`] bytes of one, or what can be none, or has ended; until then it keeps it, and reads
-/// nothing of it. One that has not come so far in ten seconds is closed (section 3.1.4), and so is the one that came first, where more than [`MOST_SILENT`] wait. Where there is nothing
-/// to give, a call waits for up to 100 milliseconds, or for as many as it was told, and looks again.
+/// A source over a listener. It gives a connection once its first packet is there, or 4,096 bytes of that, or a fault, or once it has ended; until then it keeps it, and reads nothing of
+/// it. One that has not come so far in ten seconds is closed (section 3.1.4), and so is the one that came first, where more than [`MOST_WAITING`] wait. Those whose first packet has come are
+/// given in the order in which they came. Where there is nothing to give, a call waits for up to 100 milliseconds, or for as many as it was told, and looks again.
 ///
 /// Contracts see it as its tally.
 #[derive(Drop)]
@@ -54,9 +38,8 @@ pub(crate) struct Lobby<'a, R> {
     listener: TcpSource,
     poll: Poll,
     events: Events,
-    silent: Vec<Option<Silent>>,
-    // For a look at what a connection begins with.
-    front: Vec<u8>,
+    waiting: Vec<Option<Waiting>>,
+    first_look: FirstLook,
     // How many connections each address has, where they are bounded.
     addresses: Option<Addresses>,
     // How many came.
@@ -87,8 +70,8 @@ impl<'a, R: Net + SystemClock> Lobby<'a, R> {
         addresses: Option<Addresses>,
     ) -> Result<Lobby<'a, R>, ReactorError> {
         let events = Events::with_capacity(alloc, MOST_EVENTS).map_err(|_| ReactorError::Memory)?;
-        let silent = nobody(alloc)?;
-        let front = vec![in alloc; 0; MOST_AWAITED].map_err(|_| ReactorError::Memory)?;
+        let waiting = nobody(alloc).map_err(|_| ReactorError::Memory)?;
+        let first_look = FirstLook::new(alloc).map_err(|_| ReactorError::Memory)?;
         let poll = Poll::new(rt).map_err(|e| ReactorError::of(&e))?;
         let opened = Instant::now(rt).map_err(|_| ReactorError::System)?;
         let answer = poll
@@ -100,8 +83,8 @@ impl<'a, R: Net + SystemClock> Lobby<'a, R> {
             listener,
             poll,
             events,
-            silent,
-            front,
+            waiting,
+            first_look,
             addresses,
             taken_in: 0,
             opened,
@@ -109,15 +92,6 @@ impl<'a, R: Net + SystemClock> Lobby<'a, R> {
             tally: Tally::NONE,
         })
     }
-}
-
-/// A lobby's places, all free.
-fn nobody(alloc: Global) -> Result<Vec<Option<Silent>>, ReactorError> {
-    let mut places = Vec::new(alloc);
-    for _ in 0..MOST_SILENT {
-        places.push(None).map_err(|_| ReactorError::Memory)?;
-    }
-    Ok(places)
 }
 
 impl<'a, R: SystemClock> Lobby<'a, R> {
@@ -136,17 +110,20 @@ impl<'a, R: SystemClock> Lobby<'a, R> {
         }
     }
 
-    /// Takes in those that came, and gives the first one whose first packet has come.
+    /// Gives the one that came first of those whose first packet has come; where there is none, takes in those that came.
     fn look(&mut self) -> Arrival<Socket<ClientStream>>
         ensures same { self.new ≡ self.old }
         ensures new { ComesNew (λ socket. socket.counts) result }
     {
+        if let Some(socket) = take_ready(&self.poll, &mut self.waiting) {
+            return Arrival::Came(socket);
+        }
         let now = self.now();
         let has_failed = take_in(
             &mut self.listener,
             &self.poll,
-            &mut self.silent,
-            &mut self.front,
+            &mut self.waiting,
+            &mut self.first_look,
             &mut self.addresses,
             &mut self.taken_in,
             now,
@@ -154,8 +131,8 @@ impl<'a, R: SystemClock> Lobby<'a, R> {
         if has_failed {
             return Arrival::Failed;
         }
-        close_late(&self.poll, &mut self.silent, now);
-        match take_ready(&self.poll, &mut self.silent) {
+        close_late(&self.poll, &mut self.waiting, &mut self.first_look, now);
+        match take_ready(&self.poll, &mut self.waiting) {
             Some(socket) => Arrival::Came(socket),
             None => Arrival::Idle,
         }
@@ -167,7 +144,7 @@ impl<'a, R: SystemClock> Lobby<'a, R> {
     {
         let most = Duration::from_millis(self.patience);
         if self.poll.poll(&mut self.events, Some(most)).is_ok() {
-            note_ready(&self.events, &mut self.silent, &mut self.front);
+            note_ready(&self.events, &mut self.waiting, &mut self.first_look);
         }
     }
 }
@@ -206,27 +183,27 @@ impl<'a, R: SystemClock> Source<Socket<ClientStream>> for Lobby<'a, R> {
 fn take_in(
     listener: &mut TcpSource,
     poll: &Poll,
-    silent: &mut [Option<Silent>],
-    front: &mut [u8],
+    waiting: &mut [Option<Waiting>],
+    first_look: &mut FirstLook,
     addresses: &mut Option<Addresses>,
     taken_in: &mut u64,
     now: u64,
 ) -> bool {
-    for _ in 0..MOST_SILENT {
-        let Some(place) = place_for_one(silent, front) else {
+    for _ in 0..MOST_WAITING {
+        let Some(place) = place_for_one(waiting, first_look) else {
             return false;
         };
         match next_of(listener) {
             Arrival::Came(socket) => {
                 if let Some(stream) = admit(addresses, socket.into_wire()) {
-                    let newcomer = Silent {
+                    let newcomer = Waiting {
                         stream,
                         order: *taken_in,
                         came: now,
                         is_ready: false,
                     };
                     *taken_in = taken_in.wrapping_add(1);
-                    keep(poll, silent, place, newcomer);
+                    keep(poll, waiting, place, newcomer);
                 }
             }
             Arrival::Idle | Arrival::End => return false,
@@ -251,120 +228,4 @@ fn next_of(listener: &mut TcpSource) -> Arrival<Socket<TcpStream>> {
         return Arrival::Failed;
     }
     listener.next()
-}
-
-/// Keeps a connection in this place until its first packet has come. Who was there is closed for it.
-fn keep(poll: &Poll, silent: &mut [Option<Silent>], place: usize, newcomer: Silent) {
-    let mut newcomer = newcomer;
-    let answer = poll
-        .registry()
-        .register(&mut newcomer.stream, Token(place), Interest::READABLE);
-    if answer.is_err() {
-        return;
-    }
-    if let Some(seat) = silent.get_mut(place) {
-        if let Some(first) = seat.replace(newcomer) {
-            close(poll, first);
-        }
-    }
-}
-
-/// Closes a connection.
-fn close(poll: &Poll, silent: Silent) {
-    let mut stream = silent.stream;
-    let _refused = poll.registry().deregister(&mut stream);
-}
-
-/// The place for one more: one in which nobody is, or else that of the one that came first of those whose first packet has not come. `None` where all of them have come.
-fn place_for_one(silent: &mut [Option<Silent>], front: &mut [u8]) -> Option<usize> {
-    let free = silent.iter().position(|seat| seat.is_none());
-    if free.is_some() {
-        return free;
-    }
-    for _ in 0..MOST_SILENT {
-        let place = first_come(silent)?;
-        if !is_found_ready(silent, place, front) {
-            return Some(place);
-        }
-    }
-    None
-}
-
-/// Whether the first packet of the connection in a place has come since the last wait; it is noted then. So nobody is closed whose CONNECT is there.
-fn is_found_ready(silent: &mut [Option<Silent>], place: usize, front: &mut [u8]) -> bool {
-    match silent.get_mut(place) {
-        Some(Some(one)) => {
-            one.is_ready = has_come(&one.stream, front);
-            one.is_ready
-        }
-        _ => false,
-    }
-}
-
-/// The place of the one that came first of those whose first packet has not come.
-fn first_come(silent: &[Option<Silent>]) -> Option<usize> {
-    let mut first: Option<(usize, u64)> = None;
-    for place in 0..silent.len() {
-        if let Some(Some(one)) = silent.get(place) {
-            let is_earlier = match first {
-                Some((_, order)) => one.order < order,
-                None => true,
-            };
-            if !one.is_ready && is_earlier {
-                first = Some((place, one.order));
-            }
-        }
-    }
-    first.map(|(place, _)| place)
-}
-
-/// Notes whose first packet has come, or who has ended, of those of whom the last wait told something.
-fn note_ready(events: &Events, silent: &mut [Option<Silent>], front: &mut [u8]) {
-    for event in events.iter() {
-        if let Some(Some(one)) = silent.get_mut(event.token().0) {
-            one.is_ready = one.is_ready || event.is_read_closed() || has_come(&one.stream, front);
-        }
-    }
-}
-
-/// Whether the first packet of a connection has come, as far as it is waited for; or none will. What was sent stays to be read.
-fn has_come(stream: &ClientStream, front: &mut [u8]) -> bool {
-    match stream.peek(front) {
-        Ok([]) => true,
-        Ok(start) => !is_awaited(start),
-        Err(error) => error.kind() != ErrorKind::WouldBlock,
-    }
-}
-
-/// The first one whose first packet has come, of which nothing was read yet. It is watched no more.
-fn take_ready(poll: &Poll, silent: &mut [Option<Silent>]) -> Option<Socket<ClientStream>>
-    ensures { IfSome result (λ socket. socket.counts ≡ no_counts) }
-{
-    let place = silent
-        .iter()
-        .position(|seat| matches!(seat, Some(one) if one.is_ready))?;
-    let mut stream = silent.get_mut(place)?.take()?.stream;
-    let _refused = poll.registry().deregister(&mut stream);
-    Some(Socket::new(stream))
-}
-
-/// Closes those whose first packet has not come in ten seconds.
-fn close_late(poll: &Poll, silent: &mut [Option<Silent>], now: u64) {
-    for place in 0..silent.len() {
-        if let Some(seat) = silent.get_mut(place) {
-            if is_late(seat, now) {
-                if let Some(one) = seat.take() {
-                    close(poll, one);
-                }
-            }
-        }
-    }
-}
-
-/// Whether the first packet of a connection has not come in ten seconds.
-fn is_late(seat: &Option<Silent>, now: u64) -> bool {
-    match seat {
-        Some(one) => !one.is_ready && now.saturating_sub(one.came) >= CONNECT_TIMEOUT,
-        None => false,
-    }
 }

@@ -8,6 +8,7 @@ use Rattle.group_queue.specs.Places.{PlaceState}
 use Rattle.broker_groups.specs.Outs.{HasOut}
 use Rattle.call_history.specs.Callers.{CallerState, all_parts, first_caller}
 use Rattle.shared_desk.specs.Histories.{TakesEach}
+use Rattle.shared_routes.specs.declared.new_shares.NewShares.{NewShares}
 
 -- a caller of the desk
 abbrev pub DeskCallerState : Type 0
@@ -17,9 +18,10 @@ DeskCallerState = CallerState (Call Held PlaceState)
 abbrev pub HasPutIn : DeskCallerState → List PlaceState → Type 0
 HasPutIn caller places = TakesEach HasOut (λ (place : PlaceState). place.group) (λ (place : PlaceState). place.number) first_caller places (record caller { parts = all_parts })
 
--- a broker that is open: how many workers it has, and the first caller of its desk
+-- a broker that is open: how many workers it has, what its table of routes does with a share that nobody declared, and the first caller of its desk
 pub record BrokerState : Type 0 where
   pub workers : ℕ
+  pub new_shares : NewShares
   pub caller : DeskCallerState
 
 -- a caller took these others in: it knows what each of them knew, and has the calls of all, and their right to call

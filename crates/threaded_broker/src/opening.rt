@@ -24,7 +24,7 @@ use worker_connections::WorkerHandle;
 /// A broker that is open: what its workers share, what each of them has, and the first caller of its desk. There are 1 to 64 workers, and nobody has used what they have: nothing was
 /// published through their ports, and they made no call of the desk. The first caller put new places of the groups into the desk, and did nothing else.
 ///
-/// Contracts see it as the number of its workers, with the first caller: together they have the whole right to call the desk.
+/// Contracts see it as the number of its workers, with the first caller, who together have the whole right to call the desk, and what its table of routes does with new shares.
 pub struct OpenBroker<'g, B: Broker, N: HistoryName> {
     shared_broker: SharedBroker<'g, B, N>,
     handles: Vec<WorkerHandle<B, N>>,
@@ -43,7 +43,7 @@ impl<'g, B: Broker, N: HistoryName> Model for OpenBroker<'g, B, N> {
 
     ghost Value = { BrokerState };
 
-    ghost view = { λ b. record { workers = length b.handles.items; caller = b.caller } };
+    ghost view = { λ b. record { workers = length b.handles.items; new_shares = b.shared_broker.new_shares; caller = b.caller } };
 
     ghost invariant = { λ b. (1 ≤ length b.handles.items) × (length b.handles.items ≤ 64) × All (λ handle. IsUnused handle.ports handle.desk) b.handles.items
         × (b.room.items ≡ []) × (length b.handles.items ≤ vec_capacity b.room) × (b.caller.parts + length b.handles.items ≡ all_parts)
@@ -74,6 +74,7 @@ impl<'g, B: Broker<Seen = Nobody>, N: HistoryName> OpenBroker<'g, B, N> {
         requires opened { IsOfBroker B.gate B.group workers opened }
         ensures seats { IfOk result (λ _. AreSeatsOf gate.now seats.new.items × (length seats.new.items + workers ≡ length seats.old.items)) }
         ensures workers { IfOk result (λ broker. broker.workers ≡ workers) }
+        ensures shares { IfOk result (λ broker. broker.new_shares ≡ new_shares) }
     {
         let count = usize::from(workers);
         let (Ok(handles), Ok(room)) = (

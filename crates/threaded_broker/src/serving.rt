@@ -14,7 +14,7 @@ ghost use Rattle.threaded_broker.specs.Shares.{IsBoundIn};
 
 use crate::closing::{close, take_in};
 use crate::opening::{BrokerParts, OpenBroker, abandon};
-use crate::shares::{bind_all, copy_all};
+use crate::shares::{copy_all, declare_all};
 use broker_groups::{Broker, BrokerPlace, Ended, Ports};
 use call_history::HistoryName;
 use conn_supply::NoMemory;
@@ -303,7 +303,7 @@ where
     let Ok(mut known) = shared_broker.observe_routes(alloc) else {
         return Err(handles);
     };
-    let Ok(()) = bind_all(alloc, &mut known, shares) else {
+    let Ok(()) = declare_all(alloc, &mut known, shares) else {
         return Err(handles);
     };
     match run(

@@ -11,7 +11,7 @@ use shared_routes::{BindError, KnownRoutes};
 use std::alloc::Global;
 
 /// Declares shares: binds each to the least slot that is free; where none is, those that are left are not bound.
-pub(crate) fn bind_all(
+pub(crate) fn declare_all(
     alloc: Global,
     known: &mut KnownRoutes<'_>,
     shares: &[Share],
@@ -23,14 +23,14 @@ pub(crate) fn bind_all(
         [] => Ok(()),
         [share, others @ ..] => {
             let copy = copy_of(alloc, share)?;
-            bind(alloc, known, copy)?;
-            bind_all(alloc, known, others)
+            declare(alloc, known, copy)?;
+            declare_all(alloc, known, others)
         }
     }
 }
 
 /// Declares a share, where a slot is free.
-fn bind(alloc: Global, known: &mut KnownRoutes<'_>, share: Share) -> Result<(), NoMemory>
+fn declare(alloc: Global, known: &mut KnownRoutes<'_>, share: Share) -> Result<(), NoMemory>
     ensures grows { Grows known.old known.new }
     ensures bound { OnOk result (IsBoundIn known.new.shares share) }
 {

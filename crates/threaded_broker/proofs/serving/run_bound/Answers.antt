@@ -12,7 +12,7 @@ use Rattle.threaded_broker.proofs.serving.run_bound.Goals as goal
 pub returns-in-Ok-copy_all-clause-shares : goal.returns-in-Ok-copy_all-clause-shares
 returns-in-Ok-copy_all-clause-shares g c =
     let same = ap (λ (known : KnownState). known.shares) c.run.ensures.routes in
-    let bound = subst (λ (all : List Share). All (IsBoundIn all) c.args.shares.now) (sym same) c.in-Ok-bind_all.ensures.bound in
+    let bound = subst (λ (all : List Share). All (IsBoundIn all) c.args.shares.now) (sym same) c.in-Ok-declare_all.ensures.bound in
     at_the_end c.run.new.routes c.refresh.new.self c.args.shares.now c.in-Ok-copy_all.shares.items bound c.refresh.ensures.grows c.in-Ok-copy_all.ensures
 
 pub returns-in-Ok-copy_all-clause-served : goal.returns-in-Ok-copy_all-clause-served
