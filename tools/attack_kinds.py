@@ -214,6 +214,10 @@ def half_storm(work):
     storm(work, connect(work.name)[:1])
 
 
+def other_half_storm(work):
+    storm(work, publish(NOBODY, b"", 1)[:1])
+
+
 def parked(work):
     """Sessions that never expire, each of a client of its own that comes once."""
     names = itertools.count()
@@ -265,6 +269,7 @@ ATTACKS = {
     "silent": Attack(1, silent, "connections", by_second=False, before=SILENT_CONNECTIONS),
     "silent-storm": Attack(4, silent_storm, "connections", before=4 * STORM_CONNECTIONS),
     "half-storm": Attack(4, half_storm, "connections", before=4 * STORM_CONNECTIONS),
+    "other-half-storm": Attack(4, other_half_storm, "connections", before=4 * STORM_CONNECTIONS),
     "parked": Attack(4, parked, "sessions", before=512),
     "payloads": Attack(4, payloads, "packets"),
     "take-and-die": Attack(1, take_and_die, "jobs taken", before=0),

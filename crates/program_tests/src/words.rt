@@ -14,7 +14,7 @@ pub(crate) fn words_of(alloc: Global, line: &str) -> Result<Vec<String>, AllocEr
     Ok(words)
 }
 
-/// What a line asks for: the command, and of `serve` the address, the port, the workers, until when, the time to drain, the port of metrics, the level of its log
+/// What a line asks for: the command, and of `serve` the address, the port, the workers, until when, the time to drain, the port of metrics, the level of its log,
 /// whether parked sessions are kept, whether groups are to be declared and how many connections an address may have; the capacity, the limit of unacknowledged messages and the shares; or the status of its fault.
 pub(crate) fn asked(alloc: Global, line: &str) -> Result<String, AllocError> {
     let words = words_of(alloc, line)?;

@@ -58,8 +58,8 @@ pub(crate) struct Counts {
     pub(crate) discardable: u64,
 }
 
-/// Where a broker listens, how many workers it has, for how many seconds it drains at most, what it does with shares that are not declared, where it refuses them,
-/// `$share/g/job` is declared, and how many connections an address may have, 0 for any number.
+/// Where a broker listens, how many workers it has, for how many seconds it drains at most, what it does with shares that are not declared, and how many connections an address may
+/// have, 0 for any number. Where it refuses shares, `$share/g/job` is declared.
 #[derive(Clone, Copy)]
 pub(crate) struct Listener {
     pub(crate) port: u16,
