@@ -37,6 +37,8 @@ impl ClientStream {
 
 /// What came and what went nobody knows.
 impl Wire for ClientStream {
+    ghost use Rattle.std.specs.Prelude.{⊤};
+
     ghost receives = { λ _ _ _. ⊤ };
 
     ghost sends = { λ _ _ _. ⊤ };
