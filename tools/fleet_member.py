@@ -400,9 +400,6 @@ class Member(Link):
         if not clean:
             self.hide()
             self.fleet.broken += 1
-        if self.fleet.closing and self.resumed and not self.session.expiry:
-            # as the broker closes, a worker that has not learned of it may end a session that another one has kept, and that was parked before
-            self.session.may_have_ended()
         if not expected and (self.told is None or self.told == 0x8E):
             raise Fault(f"{name}: ended, told {self.told}, and nobody took it over")
         if self.told == 0x8E:

@@ -29,11 +29,12 @@ use Rattle.conn_engine.specs.Ending.{down, Retires, Parts}
 abbrev pub most_ticks : ℕ
 most_ticks = 100
 
--- the session of a connection that begins: its quota is made of this CONNECT's Receive Maximum, and its expiry is this CONNECT's (3.1.2.11)
+-- the session of a connection that begins: its quota is made of this CONNECT's Receive Maximum, its expiry is this CONNECT's (3.1.2.11), and its
+-- interval begins anew when the connection ends
 abbrev pub opened : {P : Type 0} → Session Held P → Terms → Session Held P
 opened session terms = record {
   identity = session.identity;
-  expiry = record { seconds = terms.session_expiry_interval; parked = session.expiry.parked };
+  expiry = record { seconds = terms.session_expiry_interval; parked = None };
   window = after_up session.window terms.receive_maximum;
   membership = session.membership;
   subscription = session.subscription;

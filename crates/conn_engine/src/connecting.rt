@@ -17,7 +17,7 @@ use conn_supply::{HoldingPlace, NoMemory, Reply, Supply};
 use group_jobs::Envelope;
 use member_window::Window;
 use mqtt_packet::{ConnectRefusal, Text};
-use session_desk::{Attached, DeskError, Identity, Session};
+use session_desk::{Attached, DeskError, Expiry, Identity, Session};
 
 /// For how many Ticks a connection waits for a session.
 const MOST_TICKS: u8 = 100;
@@ -195,7 +195,10 @@ fn open<P: HoldingPlace>(mut session: Session<Envelope, P>, terms: &Terms) -> Se
     ensures sound { IsSoundSession P.has_out result }
 {
     session.window.up(terms.receive_maximum);
-    session.expiry.seconds = terms.session_expiry_interval;
+    session.expiry = Expiry {
+        seconds: terms.session_expiry_interval,
+        parked: None,
+    };
     session
 }
 

@@ -61,6 +61,26 @@ impl WorkerCounts {
     }
 }
 
+/// Connections that were closed before a worker took them up: nothing was read of them.
+#[derive(Clone, Copy, Debug, PartialEq, Eq)]
+pub struct TurnedAway {
+    /// Their address had as many as it may; or they were gone already, or there was no memory to count one more.
+    pub of_address: u64,
+    /// A newcomer wanted their place: of those whose first packet had not come they came first.
+    pub for_newcomer: u64,
+    /// Their first packet had not come in ten seconds (section 3.1.4).
+    pub late: u64,
+}
+
+impl TurnedAway {
+    /// Nobody was turned away.
+    pub const NONE: TurnedAway = TurnedAway {
+        of_address: 0,
+        for_newcomer: 0,
+        late: 0,
+    };
+}
+
 /// How many groups a broker has at most.
 const GROUPS: usize = 8;
 

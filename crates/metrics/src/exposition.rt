@@ -1,5 +1,5 @@
 //! Prometheus' text format, version 0.0.4.
-ghost use Rattle.std.specs.Prelude.{◌≡◌, ◌++◌, OnOk, flat_map};
+ghost use Rattle.std.specs.Prelude.{◌≡◌, ◌++◌, [], OnOk, flat_map};
 ghost use Rattle.metrics.specs.Exposition.{escaped, escaped_byte, family_text, label_text, labels_text, one_more_label, sample_text, type_of};
 
 use itoa::Buffer;
@@ -70,6 +70,24 @@ pub fn add_sample(
     text.extend_from_slice(b" ")?;
     text.extend_from_slice(digits.format(number).as_bytes())?;
     text.extend_from_slice(b"\n")
+}
+
+/// Adds a family of one number.
+///
+/// # Errors
+///
+/// An allocation failed: a beginning was added.
+pub(crate) fn add_number(
+    text: &mut Vec<u8>,
+    name: &str,
+    help: &str,
+    kind: Kind,
+    number: u64,
+) -> Result<(), AllocError>
+    ensures { OnOk result (text.new.items ≡ (text.old.items ++ family_text name.now help.now kind) ++ sample_text name.now [] number) }
+{
+    add_family(text, name, help, kind)?;
+    add_sample(text, name, &[], number)
 }
 
 /// Adds labels in braces, if there are any.

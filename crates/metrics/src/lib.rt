@@ -4,14 +4,18 @@
 #![tactic(auto)]
 
 mod answering;
+mod clients;
 mod counts;
 mod exposition;
+mod jobs;
 mod page;
 mod peer;
+mod reason_codes;
 mod server;
 mod service;
+mod workers;
 
-pub use counts::{SharedCounts, WorkerCounts, shared_counts};
+pub use counts::{SharedCounts, TurnedAway, WorkerCounts, shared_counts};
 pub use exposition::{Kind, Label, add_family, add_sample};
 pub use server::{MetricsServer, OpenError};
 pub use service::MetricsService;

@@ -1,7 +1,9 @@
 //! What a broker tells of itself while it runs: the text of its numbers, and answers over the loopback.
 
 use bytes::Bytes;
-use metrics::{MetricsServer, MetricsService, SharedCounts, WorkerCounts, shared_counts};
+use metrics::{
+    MetricsServer, MetricsService, SharedCounts, TurnedAway, WorkerCounts, shared_counts,
+};
 use mqtt_packet::Text;
 use mqtt_topic::Share;
 use std::alloc::{AllocError, Global};
@@ -54,9 +56,14 @@ fn numbers_as_text(rt: HostRuntime) -> Result<(), Fail> {
         workers: &workers,
         shares: &shares,
         capacity: 10,
+        turned_away: TurnedAway {
+            of_address: 5,
+            for_newcomer: 6,
+            late: 8,
+        },
     };
     let text = String::from_utf8(service.exposition()?)?;
-    let lines: [&str; 12] = [
+    let lines: [&str; 15] = [
         "# HELP share_broker_jobs_queued Jobs that were never handed out.\n# TYPE share_broker_jobs_queued gauge\n",
         "\nshare_broker_jobs_accepted_total{group=\"$share/a\\\"b/job\\\\\\n\"} 7\n",
         "\nshare_broker_jobs_accepted_total{group=\"slot 5\"} 1\n",
@@ -67,6 +74,9 @@ fn numbers_as_text(rt: HostRuntime) -> Result<(), Fail> {
         "\nshare_broker_queue_room{group=\"$share/a\\\"b/job\\\\\\n\"} 7\n",
         "\nshare_broker_connections 1\n",
         "\nshare_broker_connections_connected 1\n",
+        "\nshare_broker_connections_turned_away_total{reason=\"address\"} 5\n",
+        "\nshare_broker_connections_turned_away_total{reason=\"newcomer\"} 6\n",
+        "\nshare_broker_connections_turned_away_total{reason=\"late\"} 8\n",
         "\nshare_broker_sessions 1\n",
         "\nshare_broker_worker_turns_total{worker=\"0\"} 3\n",
     ];
@@ -93,6 +103,7 @@ fn answers_as_text(rt: HostRuntime) -> Result<(), Fail> {
         workers: &workers,
         shares: &[],
         capacity: 10,
+        turned_away: TurnedAway::NONE,
     };
     let text = String::from_utf8(service.exposition()?)?;
     let families: [(&str, usize); 4] = [
@@ -125,6 +136,7 @@ fn shares_that_clients_bind(rt: HostRuntime) -> Result<(), Fail> {
         workers: &workers,
         shares: &[],
         capacity: 10,
+        turned_away: TurnedAway::NONE,
     };
     let text = String::from_utf8(service.exposition()?)?;
     let lines: [&str; 2] = [
@@ -162,6 +174,7 @@ fn answers_over_the_loopback(rt: HostRuntime) -> Result<(), Fail> {
         workers: &workers,
         shares: &[],
         capacity: 10,
+        turned_away: TurnedAway::NONE,
     };
     let mut server = MetricsServer::open(&rt, rt.alloc(), Ipv4Addr::LOCALHOST, 0)?;
     let port = server.port();

@@ -14,6 +14,6 @@ abbrev pub IsOver : Expiry → ℕ → Type 0
 IsOver expiry now =
     (expiry.seconds ≢ 4294967295) × ((parked : ℕ) × (expiry.parked ≡ Some parked) × (parked + 1000 * expiry.seconds ≤ now))
 
--- the moment at which the session was parked last, in milliseconds; 0 where that was never
+-- the moment at which the session was parked, in milliseconds; 0 where it has not been since a connection began with it
 abbrev pub parked_from : Expiry → ℕ
 parked_from expiry = unwrap_or expiry.parked 0

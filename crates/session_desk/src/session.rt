@@ -56,7 +56,7 @@ pub struct Expiry {
     /// The Session Expiry Interval in seconds: with 0 the session ends with its connection, and with `u32::MAX` it never
     /// ends by time.
     pub seconds: u32,
-    /// The moment in milliseconds at which a desk parked the session last; `None` where that was never.
+    /// The moment in milliseconds at which a desk parked the session; `None` where it has not since a connection began with it.
     pub parked: Option<u64>,
 }
 

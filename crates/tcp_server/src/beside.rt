@@ -50,6 +50,7 @@ impl<'a, R: Wait + SystemClock> BesideMetrics<'a, R> {
         ensures { self.new ≡ self.old }
     {
         if let Some(metrics) = &mut self.metrics {
+            metrics.service.turned_away = self.lobby.turned_away();
             if let Some(patience) = metrics.go_on() {
                 self.lobby.wait_at_most(patience);
             }

@@ -20,6 +20,7 @@ mod serving;
 mod settings;
 mod setup;
 mod socket_poller;
+mod turned_away;
 mod waiting;
 mod watching;
 

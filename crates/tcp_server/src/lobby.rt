@@ -4,12 +4,11 @@ ghost use Rattle.transport.specs.Counting.{ComesNew, MayCome, after_arrival};
 
 use crate::addresses::Addresses;
 use crate::client_stream::ClientStream;
-use crate::first_packet::FirstLook;
-use crate::waiting::{
-    MOST_WAITING, Waiting, close_late, keep, nobody, note_ready, place_for_one, take_ready,
-};
+use crate::turned_away::TurnedAwayLog;
+use crate::waiting::{MOST_WAITING, WaitingRoom};
+use broker_log::Log;
+use metrics::TurnedAway;
 use mio::net::TcpStream;
-use mio::{Events, Interest, Poll, Token};
 use std::alloc::Global;
 use std::marker::Model;
 use std::net::Net;
@@ -21,12 +20,6 @@ use transport::{Arrival, Source, Tally};
 /// For how many milliseconds a call waits at most, unless it is told otherwise.
 const PATIENCE: u64 = 100;
 
-/// What one wait can tell of: the listener, and each connection that waits here.
-const MOST_EVENTS: usize = MOST_WAITING + 1;
-
-/// The token of the listener; the connection in place n has the token n.
-const LISTENER: usize = MOST_WAITING;
-
 /// A source over a listener. It gives a connection once its first packet is there, or 4,096 bytes of that, or a fault, or once it has ended; until then it keeps it, and reads nothing of
 /// it. One that has not come so far in ten seconds is closed (section 3.1.4), and so is the one that came first, where more than [`MOST_WAITING`] wait. Those whose first packet has come are
 /// given in the order in which they came. Where there is nothing to give, a call waits for up to 100 milliseconds, or for as many as it was told, and looks again.
@@ -36,14 +29,11 @@ const LISTENER: usize = MOST_WAITING;
 pub(crate) struct Lobby<'a, R> {
     rt: &'a R,
     listener: TcpSource,
-    poll: Poll,
-    events: Events,
-    waiting: Vec<Option<Waiting>>,
-    first_look: FirstLook,
+    room: WaitingRoom,
     // How many connections each address has, where they are bounded.
     addresses: Option<Addresses>,
-    // How many came.
-    taken_in: u64,
+    turned_away: TurnedAway,
+    log: TurnedAwayLog<'a>,
     opened: Instant,
     patience: u64,
     tally: Tally,
@@ -58,7 +48,8 @@ impl<'a, R> Model for Lobby<'a, R> {
 }
 
 impl<'a, R: Net + SystemClock> Lobby<'a, R> {
-    /// A lobby of this listener, in which nobody is. Where the connections of each address are bounded, one that is too many for its address is closed as it comes.
+    /// A lobby of this listener, in which nobody is. Where the connections of each address are bounded, one that is too many for its address is closed as it comes. How many it closes it
+    /// says to this log.
     ///
     /// # Errors
     ///
@@ -68,25 +59,17 @@ impl<'a, R: Net + SystemClock> Lobby<'a, R> {
         alloc: Global,
         mut listener: TcpSource,
         addresses: Option<Addresses>,
+        log: &'a Log,
     ) -> Result<Lobby<'a, R>, ReactorError> {
-        let events = Events::with_capacity(alloc, MOST_EVENTS).map_err(|_| ReactorError::Memory)?;
-        let waiting = nobody(alloc).map_err(|_| ReactorError::Memory)?;
-        let first_look = FirstLook::new(alloc).map_err(|_| ReactorError::Memory)?;
-        let poll = Poll::new(rt).map_err(|e| ReactorError::of(&e))?;
+        let room = WaitingRoom::open(rt, alloc, &mut listener)?;
         let opened = Instant::now(rt).map_err(|_| ReactorError::System)?;
-        let answer = poll
-            .registry()
-            .register(&mut listener, Token(LISTENER), Interest::READABLE);
-        answer.map_err(|_| ReactorError::System)?;
         Ok(Lobby {
             rt,
             listener,
-            poll,
-            events,
-            waiting,
-            first_look,
+            room,
             addresses,
-            taken_in: 0,
+            turned_away: TurnedAway::NONE,
+            log: TurnedAwayLog::of(log, alloc),
             opened,
             patience: PATIENCE,
             tally: Tally::NONE,
@@ -102,6 +85,11 @@ impl<'a, R: SystemClock> Lobby<'a, R> {
         self.patience = patience;
     }
 
+    /// How many connections it closed.
+    pub(crate) fn turned_away(&self) -> TurnedAway {
+        self.turned_away
+    }
+
     /// How many milliseconds went by since it was opened.
     fn now(&self) -> u64 {
         match self.opened.elapsed(self.rt) {
@@ -115,36 +103,25 @@ impl<'a, R: SystemClock> Lobby<'a, R> {
         ensures same { self.new ≡ self.old }
         ensures new { ComesNew (λ socket. socket.counts) result }
     {
-        if let Some(socket) = take_ready(&self.poll, &mut self.waiting) {
+        if let Some(socket) = self.room.take_ready() {
             return Arrival::Came(socket);
         }
         let now = self.now();
         let has_failed = take_in(
             &mut self.listener,
-            &self.poll,
-            &mut self.waiting,
-            &mut self.first_look,
+            &mut self.room,
             &mut self.addresses,
-            &mut self.taken_in,
+            &mut self.turned_away,
             now,
         );
         if has_failed {
             return Arrival::Failed;
         }
-        close_late(&self.poll, &mut self.waiting, &mut self.first_look, now);
-        match take_ready(&self.poll, &mut self.waiting) {
+        count(&mut self.turned_away.late, self.room.close_late(now));
+        self.log.look(&self.turned_away, now);
+        match self.room.take_ready() {
             Some(socket) => Arrival::Came(socket),
             None => Arrival::Idle,
-        }
-    }
-
-    /// Waits for a while, or for less where something may have come, and notes whose first packet has.
-    fn pause(&mut self)
-        ensures { self.new ≡ self.old }
-    {
-        let most = Duration::from_millis(self.patience);
-        if self.poll.poll(&mut self.events, Some(most)).is_ok() {
-            note_ready(&self.events, &mut self.waiting, &mut self.first_look);
         }
     }
 }
@@ -161,7 +138,7 @@ impl<'a, R: SystemClock> Source<Socket<ClientStream>> for Lobby<'a, R> {
     {
         let arrival = match self.look() {
             Arrival::Idle => {
-                self.pause();
+                self.room.wait(Duration::from_millis(self.patience));
                 self.look()
             }
             other => other,
@@ -182,30 +159,23 @@ impl<'a, R: SystemClock> Source<Socket<ClientStream>> for Lobby<'a, R> {
 /// Takes in those that came, until there is none, there is no place left, or the listener fails; whether it has failed.
 fn take_in(
     listener: &mut TcpSource,
-    poll: &Poll,
-    waiting: &mut [Option<Waiting>],
-    first_look: &mut FirstLook,
+    room: &mut WaitingRoom,
     addresses: &mut Option<Addresses>,
-    taken_in: &mut u64,
+    turned_away: &mut TurnedAway,
     now: u64,
 ) -> bool {
     for _ in 0..MOST_WAITING {
-        let Some(place) = place_for_one(waiting, first_look) else {
+        let Some(place) = room.place_for_one() else {
             return false;
         };
         match next_of(listener) {
-            Arrival::Came(socket) => {
-                if let Some(stream) = admit(addresses, socket.into_wire()) {
-                    let newcomer = Waiting {
-                        stream,
-                        order: *taken_in,
-                        came: now,
-                        is_ready: false,
-                    };
-                    *taken_in = taken_in.wrapping_add(1);
-                    keep(poll, waiting, place, newcomer);
+            Arrival::Came(socket) => match admit(addresses, socket.into_wire()) {
+                Some(stream) => {
+                    let has_closed = room.keep(place, stream, now);
+                    count(&mut turned_away.for_newcomer, u64::from(has_closed));
                 }
-            }
+                None => count(&mut turned_away.of_address, 1),
+            },
             Arrival::Idle | Arrival::End => return false,
             Arrival::Failed => return true,
         }
@@ -213,7 +183,12 @@ fn take_in(
     false
 }
 
-/// The stream of a client, unless its address has as many connections as it may; then it is closed.
+/// Counts so many more.
+fn count(sum: &mut u64, more: u64) {
+    *sum = sum.saturating_add(more);
+}
+
+/// The stream of a client, unless its address has as many connections as it may, or is gone; then it is closed.
 fn admit(addresses: &mut Option<Addresses>, stream: TcpStream) -> Option<ClientStream> {
     let claim = match addresses {
         Some(addresses) => Some(addresses.claim(stream.peer_addr().ok()?.ip())?),

@@ -24,7 +24,7 @@ use broker_log::Log;
 use call_history::HistoryName;
 use gate_word::{Gate, GateSeat};
 use group_queue::Nobody;
-use metrics::{MetricsServer, MetricsService, OpenError, shared_counts};
+use metrics::{MetricsServer, MetricsService, OpenError, TurnedAway, shared_counts};
 use mqtt_topic::Routes;
 use shared_desk::OpenedDesk;
 use std::alloc::Global;
@@ -109,7 +109,8 @@ pub fn serve_with<R: Threads + Wait + Net + SystemClock + Sync, I: Read + Send, 
 {
     let Listeners { source, metrics } = listeners;
     let port = source.port();
-    let lobby = match Lobby::open(rt, alloc, source, addresses_of(alloc, settings.per_address)) {
+    let addresses = addresses_of(alloc, settings.per_address);
+    let lobby = match Lobby::open(rt, alloc, source, addresses, log) {
         Ok(lobby) => lobby,
         Err(ReactorError::Memory) => return Err(RunError::Memory),
         Err(ReactorError::TooFewDescriptors) => {
@@ -300,6 +301,7 @@ fn live_with<
         workers: &places,
         shares: groups.shares(),
         capacity: settings.capacity as u64,
+        turned_away: TurnedAway::NONE,
     };
     let metrics = match metrics {
         Some(server) => Some(Metrics { server, service }),

@@ -8,26 +8,126 @@ use conn_rules::CONNECT_TIMEOUT;
 use mio::event::Source as MioSource;
 use mio::{Events, Interest, Poll, Token};
 use std::alloc::{AllocFailed, Global};
-use tcp_edge::Socket;
+use std::net::Net;
+use std::time::Duration;
+use tcp_edge::{ReactorError, Socket, TcpSource};
 
 /// How many connections whose first packet has not come there are at most: a quarter of all that a broker has. Where there are as many, the one that came first is closed for
 /// a newcomer, unless its first packet has come by then.
 pub(crate) const MOST_WAITING: usize = 256;
 
-/// A connection whose first packet had not come when it was looked at last.
+/// What one wait can tell of: the listener, and each connection that waits.
+const MOST_EVENTS: usize = MOST_WAITING + 1;
+
+/// The token of the listener; the connection in place n has the token n.
+const LISTENER: usize = MOST_WAITING;
+
+/// A connection whose first packet had not come when it was looked at last. Nothing of it was read. It is watched until it is given, or closed.
 #[derive(Drop)]
-pub(crate) struct Waiting {
-    pub(crate) stream: ClientStream,
-    /// How many came before it.
-    pub(crate) order: u64,
-    /// When it came, in milliseconds since the lobby was opened.
-    pub(crate) came: u64,
-    /// Its first packet has come, or what came is none, or it has ended.
-    pub(crate) is_ready: bool,
+struct Waiting {
+    stream: ClientStream,
+    // How many came before it.
+    order: u64,
+    // When it came, in milliseconds since the lobby was opened.
+    came: u64,
+    // Its first packet has come, or what came is none, or it has ended.
+    is_ready: bool,
+}
+
+/// The places, and where who waits in them, and the listener, are watched.
+#[derive(Drop)]
+pub(crate) struct WaitingRoom {
+    poll: Poll,
+    events: Events,
+    places: Vec<Option<Waiting>>,
+    first_look: FirstLook,
+    // How many came.
+    taken_in: u64,
+}
+
+impl WaitingRoom {
+    /// One in which nobody is. It watches this listener too.
+    ///
+    /// # Errors
+    ///
+    /// [`ReactorError::Memory`], [`ReactorError::TooFewDescriptors`], [`ReactorError::System`].
+    pub(crate) fn open<R: Net>(
+        rt: &R,
+        alloc: Global,
+        listener: &mut TcpSource,
+    ) -> Result<WaitingRoom, ReactorError> {
+        let events = Events::with_capacity(alloc, MOST_EVENTS).map_err(|_| ReactorError::Memory)?;
+        let places = nobody(alloc).map_err(|_| ReactorError::Memory)?;
+        let first_look = FirstLook::new(alloc).map_err(|_| ReactorError::Memory)?;
+        let poll = Poll::new(rt).map_err(|e| ReactorError::of(&e))?;
+        let answer = poll
+            .registry()
+            .register(listener, Token(LISTENER), Interest::READABLE);
+        answer.map_err(|_| ReactorError::System)?;
+        Ok(WaitingRoom {
+            poll,
+            events,
+            places,
+            first_look,
+            taken_in: 0,
+        })
+    }
+
+    /// Waits until somebody may have come, or until the first packet of one that waits may have, or for so long; and notes whose has.
+    pub(crate) fn wait(&mut self, most: Duration) {
+        if self.poll.poll(&mut self.events, Some(most)).is_ok() {
+            note_ready(&self.events, &mut self.places, &mut self.first_look);
+        }
+    }
+
+    /// The place for one more: one in which nobody is, or else that of the one that came first of those whose first packet has not come. `None` where that one's has come by now: it is
+    /// given first.
+    pub(crate) fn place_for_one(&mut self) -> Option<usize> {
+        let place = free_or_first(&self.places)?;
+        if is_found_ready(&mut self.places, place, &mut self.first_look) {
+            None
+        } else {
+            Some(place)
+        }
+    }
+
+    /// Keeps a connection in this place until its first packet has come; one that the system does not watch is closed. Whether another one was closed for it.
+    pub(crate) fn keep(&mut self, place: usize, stream: ClientStream, now: u64) -> bool {
+        let mut newcomer = Waiting {
+            stream,
+            order: self.taken_in,
+            came: now,
+            is_ready: false,
+        };
+        self.taken_in = self.taken_in.wrapping_add(1);
+        let answer = self
+            .poll
+            .registry()
+            .register(&mut newcomer.stream, Token(place), Interest::READABLE);
+        match self.places.get_mut(place) {
+            Some(seat) if answer.is_ok() => seat.replace(newcomer).is_some(),
+            _ => false,
+        }
+    }
+
+    /// The one that came first of those whose first packet has come; nothing of it was read yet. It is watched no more.
+    pub(crate) fn take_ready(&mut self) -> Option<Socket<ClientStream>>
+        ensures { IfSome result (λ socket. socket.counts ≡ no_counts) }
+    {
+        let place = first_ready(&self.places)?;
+        let mut stream = self.places.get_mut(place)?.take()?.stream;
+        let _refused = self.poll.registry().deregister(&mut stream);
+        Some(Socket::new(stream))
+    }
+
+    /// Closes those whose first packet has not come in ten seconds, and is not found now. How many they are.
+    pub(crate) fn close_late(&mut self, now: u64) -> u64 {
+        close_all_late(&mut self.places, &mut self.first_look, now)
+    }
 }
 
 /// The places, all free.
-pub(crate) fn nobody(alloc: Global) -> Result<Vec<Option<Waiting>>, AllocFailed<Option<Waiting>>> {
+fn nobody(alloc: Global) -> Result<Vec<Option<Waiting>>, AllocFailed<Option<Waiting>>> {
     let mut places = Vec::new(alloc);
     for _ in 0..MOST_WAITING {
         places.push(None)?;
@@ -35,61 +135,53 @@ pub(crate) fn nobody(alloc: Global) -> Result<Vec<Option<Waiting>>, AllocFailed<
     Ok(places)
 }
 
-/// Keeps a connection in this place until its first packet has come. Who was there is closed for it.
-pub(crate) fn keep(poll: &Poll, places: &mut [Option<Waiting>], place: usize, newcomer: Waiting) {
-    let mut newcomer = newcomer;
-    let answer = poll
-        .registry()
-        .register(&mut newcomer.stream, Token(place), Interest::READABLE);
-    if answer.is_err() {
-        return;
-    }
-    if let Some(seat) = places.get_mut(place) {
-        if let Some(first) = seat.replace(newcomer) {
-            close(poll, first);
+/// Notes whose first packet has come, or who has ended, of those of whom the last wait told something.
+fn note_ready(events: &Events, places: &mut [Option<Waiting>], look: &mut FirstLook) {
+    for event in events.iter() {
+        if let Some(Some(one)) = places.get_mut(event.token().0) {
+            one.is_ready = one.is_ready || event.is_read_closed() || look.has_come(&one.stream);
         }
     }
 }
 
-/// Closes a connection.
-fn close(poll: &Poll, waiting: Waiting) {
-    let mut stream = waiting.stream;
-    let _refused = poll.registry().deregister(&mut stream);
-}
-
-/// The place for one more: one in which nobody is, or else that of the one that came first of those whose first packet has not come. `None` where that one's has come by now: it is
-/// given first.
-pub(crate) fn place_for_one(places: &mut [Option<Waiting>], look: &mut FirstLook) -> Option<usize> {
-    let free = places.iter().position(|seat| seat.is_none());
-    if free.is_some() {
-        return free;
-    }
-    let place = first_of(places, false)?;
-    if is_found_ready(places, place, look) {
-        None
-    } else {
-        Some(place)
-    }
-}
-
-/// The place of the one that came first of those whose first packet has come, or of those whose has not.
-fn first_of(places: &[Option<Waiting>], is_ready: bool) -> Option<usize> {
+/// A place in which nobody is; or else that of the one that came first of those whose first packet has not come.
+fn free_or_first(places: &[Option<Waiting>]) -> Option<usize> {
     let mut first: Option<(usize, u64)> = None;
     for place in 0..places.len() {
-        if let Some(Some(one)) = places.get(place) {
-            let is_earlier = match first {
-                Some((_, order)) => one.order < order,
-                None => true,
-            };
-            if one.is_ready == is_ready && is_earlier {
+        match places.get(place) {
+            Some(None) => return Some(place),
+            Some(Some(one)) if !one.is_ready && is_earlier(one, first) => {
                 first = Some((place, one.order));
             }
+            _ => {}
         }
     }
     first.map(|(place, _)| place)
 }
 
-/// Whether the first packet of the connection in a place has come since it was looked at last; it is noted then.
+/// The place of the one that came first of those whose first packet has come.
+fn first_ready(places: &[Option<Waiting>]) -> Option<usize> {
+    let mut first: Option<(usize, u64)> = None;
+    for place in 0..places.len() {
+        match places.get(place) {
+            Some(Some(one)) if one.is_ready && is_earlier(one, first) => {
+                first = Some((place, one.order));
+            }
+            _ => {}
+        }
+    }
+    first.map(|(place, _)| place)
+}
+
+/// Whether it came before the first that was found up to now.
+fn is_earlier(one: &Waiting, first: Option<(usize, u64)>) -> bool {
+    match first {
+        Some((_, order)) => one.order < order,
+        None => true,
+    }
+}
+
+/// Whether somebody is in this place whose first packet has come since it was looked at last; it is noted then.
 fn is_found_ready(places: &mut [Option<Waiting>], place: usize, look: &mut FirstLook) -> bool {
     match places.get_mut(place) {
         Some(Some(one)) => {
@@ -100,44 +192,18 @@ fn is_found_ready(places: &mut [Option<Waiting>], place: usize, look: &mut First
     }
 }
 
-/// Notes whose first packet has come, or who has ended, of those of whom the last wait told something.
-pub(crate) fn note_ready(events: &Events, places: &mut [Option<Waiting>], look: &mut FirstLook) {
-    for event in events.iter() {
-        if let Some(Some(one)) = places.get_mut(event.token().0) {
-            one.is_ready = one.is_ready || event.is_read_closed() || look.has_come(&one.stream);
-        }
-    }
-}
-
-/// The one that came first of those whose first packet has come; nothing of it was read yet. It is watched no more.
-pub(crate) fn take_ready(
-    poll: &Poll,
-    places: &mut [Option<Waiting>],
-) -> Option<Socket<ClientStream>>
-    ensures { IfSome result (λ socket. socket.counts ≡ no_counts) }
-{
-    let place = first_of(places, true)?;
-    let mut stream = places.get_mut(place)?.take()?.stream;
-    let _refused = poll.registry().deregister(&mut stream);
-    Some(Socket::new(stream))
-}
-
-/// Closes those whose first packet has not come in ten seconds, and is not found now.
-pub(crate) fn close_late(
-    poll: &Poll,
-    places: &mut [Option<Waiting>],
-    look: &mut FirstLook,
-    now: u64,
-) {
+/// Closes those whose first packet has not come in ten seconds, and is not found now. How many they are.
+fn close_all_late(places: &mut [Option<Waiting>], look: &mut FirstLook, now: u64) -> u64 {
+    let mut closed = 0u64;
     for place in 0..places.len() {
         if is_late(places.get(place), now) && !is_found_ready(places, place, look) {
             if let Some(seat) = places.get_mut(place) {
-                if let Some(one) = seat.take() {
-                    close(poll, one);
-                }
+                *seat = None;
+                closed = closed.saturating_add(1);
             }
         }
     }
+    closed
 }
 
 /// Whether the first packet of the connection in a place was not found in ten seconds.
