@@ -14,6 +14,7 @@ use crate::worker_parts::WorkerParts;
 use bell::Wake;
 use broker_groups::{Broker, BrokerPlace};
 use call_history::HistoryName;
+use conn_service::Direction;
 use conn_supply::NoMemory;
 use shared_supply::{SharedBroker, SharedSupply};
 use std::alloc::Global;
@@ -237,13 +238,25 @@ impl<'a, 'g, B: Broker, N: HistoryName, T: Transport + Drop, Q: Poller<T> + Drop
         }
     }
 
-    /// Receives what comes through the channel: a connection for which this worker was invited, or its end mark once all connections were received.
+    /// Receives what comes through the channel: a connection for which this worker was invited, or its end mark once all connections were received. A connection begins with a Tick.
     fn receive(&mut self, rt: &R)
         ensures same { StaysOf self.old.connections self.new.connections }
         ensures begun { self.new.connections.sweeps.begun ≡ self.old.connections.sweeps.begun }
     {
         let came = self.connections.receive(rt);
-        note_came(&mut self.due, self.mailboxes, self.number, came);
+        let opened = note_came(&mut self.due, self.mailboxes, self.number, came);
+        self.tick_first(opened);
+    }
+
+    /// Has a connection that was opened in a cell, if one was, begin with a Tick. So sessions whose time is over end before its CONNECT is answered, also where no other connection is
+    /// there that ticks; else a table that is full of them would keep out each newcomer.
+    fn tick_first(&mut self, opened: Option<usize>)
+        ensures { Rounds self.old.connections self.new.connections }
+    {
+        if let Some(cell) = opened {
+            let mut unread = [0; READ_SIZE];
+            let _round = self.round(cell, Direction::Outbound, &mut unread, 0);
+        }
     }
 
     /// What it had of the broker and knows of its routes and its desk, its end of the channel, how its connections ended, and where it waited: these are what its run has come to. Any
@@ -274,18 +287,25 @@ impl<'a, 'g, B: Broker, N: HistoryName, T: Transport + Drop, Q: Poller<T> + Drop
     }
 }
 
-/// Notes what came through the channel: a connection that is open is due, and one that was not opened has left the worker.
-fn note_came<W: Wake>(due: &mut Marks, mailboxes: &Mailboxes<W>, number: usize, came: Admission) {
+/// Notes what came through the channel: a connection that is open is due, and one that was not opened has left the worker. The cell of one that is open.
+fn note_came<W: Wake>(
+    due: &mut Marks,
+    mailboxes: &Mailboxes<W>,
+    number: usize,
+    came: Admission,
+) -> Option<usize> {
     match came {
         Admission::Opened(cell) => {
             mailboxes.note_received();
             due.mark(cell);
+            Some(cell)
         }
         Admission::Refused => {
             mailboxes.note_received();
             mailboxes.leave(number);
+            None
         }
-        Admission::EndMark | Admission::Nothing => {}
+        Admission::EndMark | Admission::Nothing => None,
     }
 }
 
