@@ -29,24 +29,24 @@ impl<'a> TurnedAwayLog<'a> {
     }
 
     /// Says how many there are more, at this moment in milliseconds, if it is time.
-    pub(crate) fn look(&mut self, now: &TurnedAway, moment: u64) {
-        if *now == self.before || moment.saturating_sub(self.said) < PERIOD {
+    pub(crate) fn look(&mut self, counts: &TurnedAway, now: u64) {
+        if *counts == self.before || now.saturating_sub(self.said) < PERIOD {
             return;
         }
         if self.log.writes(Level::Info) {
             self.log
-                .say(Level::Info, text(self.alloc, &self.before, now));
+                .say(Level::Info, text(self.alloc, &self.before, counts));
         }
-        self.before = *now;
-        self.said = moment;
+        self.before = *counts;
+        self.said = now;
     }
 }
 
-/// How many were turned away between two moments.
-fn text(alloc: Global, before: &TurnedAway, now: &TurnedAway) -> Result<String, AllocError> {
-    let newcomers = now.for_newcomer.saturating_sub(before.for_newcomer);
-    let late = now.late.saturating_sub(before.late);
-    let addresses = now.of_address.saturating_sub(before.of_address);
+/// How many were turned away since these were counted.
+fn text(alloc: Global, before: &TurnedAway, counts: &TurnedAway) -> Result<String, AllocError> {
+    let newcomers = counts.for_newcomer.saturating_sub(before.for_newcomer);
+    let late = counts.late.saturating_sub(before.late);
+    let addresses = counts.of_address.saturating_sub(before.of_address);
     format!(in alloc;
         "connections closed before their first packet was read: {newcomers} for newcomers, {late} after ten seconds, {addresses} beyond what their address may have"
     )

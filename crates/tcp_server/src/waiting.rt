@@ -83,7 +83,10 @@ impl WaitingRoom {
     /// The place for one more: one in which nobody is, or else that of the one that came first of those whose first packet has not come. `None` where that one's has come by now: it is
     /// given first.
     pub(crate) fn place_for_one(&mut self) -> Option<usize> {
-        let place = free_or_first(&self.places)?;
+        if let Some(free) = self.places.iter().position(|seat| seat.is_none()) {
+            return Some(free);
+        }
+        let place = first_of(&self.places, false)?;
         if is_found_ready(&mut self.places, place, &mut self.first_look) {
             None
         } else {
@@ -114,7 +117,7 @@ impl WaitingRoom {
     pub(crate) fn take_ready(&mut self) -> Option<Socket<ClientStream>>
         ensures { IfSome result (λ socket. socket.counts ≡ no_counts) }
     {
-        let place = first_ready(&self.places)?;
+        let place = first_of(&self.places, true)?;
         let mut stream = self.places.get_mut(place)?.take()?.stream;
         let _refused = self.poll.registry().deregister(&mut stream);
         Some(Socket::new(stream))
@@ -144,41 +147,21 @@ fn note_ready(events: &Events, places: &mut [Option<Waiting>], look: &mut FirstL
     }
 }
 
-/// A place in which nobody is; or else that of the one that came first of those whose first packet has not come.
-fn free_or_first(places: &[Option<Waiting>]) -> Option<usize> {
+/// The place of the one that came first, of those whose first packet has come, or of the others.
+fn first_of(places: &[Option<Waiting>], is_ready: bool) -> Option<usize> {
     let mut first: Option<(usize, u64)> = None;
     for place in 0..places.len() {
         match places.get(place) {
-            Some(None) => return Some(place),
-            Some(Some(one)) if !one.is_ready && is_earlier(one, first) => {
-                first = Some((place, one.order));
+            Some(Some(one)) if one.is_ready == is_ready => {
+                first = match first {
+                    Some((_, order)) if order < one.order => first,
+                    _ => Some((place, one.order)),
+                };
             }
             _ => {}
         }
     }
     first.map(|(place, _)| place)
-}
-
-/// The place of the one that came first of those whose first packet has come.
-fn first_ready(places: &[Option<Waiting>]) -> Option<usize> {
-    let mut first: Option<(usize, u64)> = None;
-    for place in 0..places.len() {
-        match places.get(place) {
-            Some(Some(one)) if one.is_ready && is_earlier(one, first) => {
-                first = Some((place, one.order));
-            }
-            _ => {}
-        }
-    }
-    first.map(|(place, _)| place)
-}
-
-/// Whether it came before the first that was found up to now.
-fn is_earlier(one: &Waiting, first: Option<(usize, u64)>) -> bool {
-    match first {
-        Some((_, order)) => one.order < order,
-        None => true,
-    }
 }
 
 /// Whether somebody is in this place whose first packet has come since it was looked at last; it is noted then.
