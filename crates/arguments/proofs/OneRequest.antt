@@ -12,8 +12,9 @@ use Rattle.clap.specs.Words.{IsAmong, Row, Text, fault_of, subcommand_of}
 use Rattle.clap.specs.Kinds.{Kinds}
 use Rattle.clap.specs.declared.error.kind.ErrorKind.{ErrorKind}
 use Rattle.conn_rules.specs.declared.setup.Setup.{Setup}
+use Rattle.conn_rules.specs.declared.terms.ClientLimits.{ClientLimits}
 use Rattle.arguments.specs.Groups.{Adds, AddsEach, RefusesOne, share_named}
-use Rattle.arguments.specs.Options.{HasNumber, pairs_in}
+use Rattle.arguments.specs.Options.{HasNumber, HasNumberIf, pairs_in}
 use Rattle.arguments.specs.CommandLine.{AreReadAs, AskFor, HaveNoService, HaveRefusedPair, IsServiceBy, IsSetupBy, SpellNoRequest, command_line, flag_word, level_word, word_of}
 use Rattle.arguments.specs.declared.command.Request.{Request}
 use Rattle.arguments.specs.declared.command.Request.TheVariants.{Drive, Serve, Solo}
@@ -50,6 +51,16 @@ each_or_refused (pair ∷ pairs) old new refusal (next, first, others) (inr (nex
 
 one_number : (id : Text) (least most : ℕ) (rows : List Row) (a b : ℕ) → HasNumber id least most rows a → HasNumber id least most rows b → a ≡ b
 one_number id least most rows a b h i = spelled_once h.text i.text a b (same_text _ h.text i.text h.value i.value) h.spelled i.spelled
+
+one_number_if : (id : Text) (least most : ℕ) (rows : List Row) (a b : Option ℕ) → HasNumberIf id least most rows a → HasNumberIf id least most rows b → a ≡ b
+one_number_if id least most rows None None h i = refl
+one_number_if id least most rows (Some a) (Some b) h i = ap (λ (n : ℕ). Some n) (one_number id least most rows a b h i)
+one_number_if id least most rows None (Some b) h i =
+    let bad : None ≡ Some i.text = sym h ∙ i.value in
+    cc
+one_number_if id least most rows (Some a) None h i =
+    let bad : None ≡ Some h.text = sym i ∙ h.value in
+    cc
 
 one_setup : (rows : List Row) (a b : Setup) → IsSetupBy rows a → IsSetupBy rows b → a ≡ b
 one_setup rows a b h i =
@@ -118,7 +129,7 @@ IsFew workers = (1 ≤ workers) × (workers ≤ 64)
 
 one_service : (rows : List Row) (a b : ServeOptions) → IsServiceBy rows a → IsServiceBy rows b → a ≡ b
 one_service rows a b h i =
-    let made : ℕ → ℕ → List Share → Setup = λ capacity max_inflight groups. record { capacity = capacity; max_inflight = max_inflight; groups = groups } in
+    let made : ℕ → Option ℕ → Option ℕ → ClientLimits = λ max_inflight max_expiry max_keep_alive. record { max_inflight = max_inflight; max_expiry = max_expiry; max_keep_alive = max_keep_alive } in
     let address = one_address rows a b h i in
     let port = one_number (codes "port") 0 65535 rows a.port b.port h.port i.port in
     let workers = one_number (codes "workers") 1 64 rows a.workers b.workers h.workers i.workers in
@@ -129,10 +140,12 @@ one_service rows a b h i =
     let keep_parked = one_keep rows a b h i in
     let declared_groups = one_declared rows a b h i in
     let per_address = one_number (codes "per-address") 0 65535 rows a.per_address b.per_address h.per_address i.per_address in
-    let capacity = one_number (codes "capacity") 1 65536 rows a.setup.capacity b.setup.capacity h.capacity i.capacity in
-    let max_inflight = one_number (codes "max-inflight") 1 256 rows a.setup.max_inflight b.setup.max_inflight h.max_inflight i.max_inflight in
-    let groups = each_one (pairs_in rows) [] a.setup.groups b.setup.groups h.groups i.groups in
-    (λ i. record { address = address i; port = port i; workers = workers i; until = until i; drain = drain i; metrics = metrics i; log = log i; keep_parked = keep_parked i; declared_groups = declared_groups i; per_address = per_address i; setup = made (capacity i) (max_inflight i) (groups i); few = is_prop→PathP (λ j. IsFew (workers j)) (λ j. ×_prop le_prop le_prop) a.few b.few i })
+    let capacity = one_number (codes "capacity") 1 65536 rows a.capacity b.capacity h.capacity i.capacity in
+    let max_inflight = one_number (codes "max-inflight") 1 256 rows a.limits.max_inflight b.limits.max_inflight h.max_inflight i.max_inflight in
+    let max_expiry = one_number_if (codes "max-expiry") 1 4294967295 rows a.limits.max_expiry b.limits.max_expiry h.max_expiry i.max_expiry in
+    let max_keep_alive = one_number_if (codes "max-keep-alive") 1 65535 rows a.limits.max_keep_alive b.limits.max_keep_alive h.max_keep_alive i.max_keep_alive in
+    let groups = each_one (pairs_in rows) [] a.groups b.groups h.groups i.groups in
+    (λ i. record { address = address i; port = port i; workers = workers i; until = until i; drain = drain i; metrics = metrics i; log = log i; keep_parked = keep_parked i; declared_groups = declared_groups i; per_address = per_address i; limits = made (max_inflight i) (max_expiry i) (max_keep_alive i); capacity = capacity i; groups = groups i; few = is_prop→PathP (λ j. IsFew (workers j)) (λ j. ×_prop le_prop le_prop) a.few b.few i })
 
 one_reading : (words : List Text) (a b : Text) (x y : List Row) → AreReadAs words a x → AreReadAs words b y → (a ≡ b) × (y ≡ x)
 one_reading words a b x y h i = same_pair (subcommand_of command_line words) a b x y h.1 i.1
@@ -187,6 +200,6 @@ exclusive words (Drive setup) kind (rows, read, by) (inl fault) = among_none kin
 exclusive words (Drive setup) kind (rows, read, by) (inr (is, inl pair)) = no_refused_pair words (codes "drive") rows setup.groups read by.2 pair
 exclusive words (Drive setup) kind (rows, read, by) (inr (is, inr none)) = other_command words (codes "drive") rows read drive_not_serve none
 exclusive words (Serve service) kind (rows, read, by) (inl fault) = among_none kind (fault_of command_line words) read.0 fault
-exclusive words (Serve service) kind (rows, read, by) (inr (is, inl pair)) = no_refused_pair words (codes "serve") rows service.setup.groups read by.groups pair
+exclusive words (Serve service) kind (rows, read, by) (inr (is, inl pair)) = no_refused_pair words (codes "serve") rows service.groups read by.groups pair
 exclusive words (Serve service) kind (rows, read, by) (inr (is, inr (rows', read', none))) =
     none service (subst (λ rows. IsServiceBy rows service) (sym (one_reading words (codes "serve") (codes "serve") rows rows' read read').1) by)

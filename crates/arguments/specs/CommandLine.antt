@@ -9,7 +9,7 @@ use Rattle.conn_rules.specs.declared.setup.Setup.{Setup}
 use Rattle.broker_log.specs.declared.level.Level.{Level}
 use Rattle.broker_log.specs.declared.level.Level.TheVariants as levels
 use Rattle.arguments.specs.Groups.{AddsEach, RefusesOne}
-use Rattle.arguments.specs.Options.{address_option, capacity_option, declared_groups_option, drain_option, group_option, keep_parked_option, log_option, max_inflight_option, metrics_option, per_address_option, port_option, until_option, workers_option, HasNumber, HaveCapacity, HaveMaxInflight, pairs_in}
+use Rattle.arguments.specs.Options.{address_option, capacity_option, declared_groups_option, drain_option, group_option, keep_parked_option, log_option, max_expiry_option, max_inflight_option, max_keep_alive_option, metrics_option, per_address_option, port_option, until_option, workers_option, HasNumber, HasNumberIf, HaveCapacity, HaveMaxInflight, pairs_in}
 use Rattle.arguments.specs.declared.command.Request.{Request}
 use Rattle.arguments.specs.declared.command.Request.TheVariants.{Solo, Drive, Serve}
 use Rattle.arguments.specs.declared.groups.Refusal.{Refusal}
@@ -23,11 +23,11 @@ use Rattle.arguments.specs.declared.service.ServeUntil.TheVariants.{Stdin, Kille
 abbrev pub command_named : Text → App
 command_named name = with_rule (with_rule (with_rule (new_app name) capacity_option) max_inflight_option) group_option
 
--- the ten options that `serve` has of its own
+-- the twelve options that `serve` has of its own
 abbrev pub serve_alone : App
 serve_alone =
-    with_rule (with_rule (with_rule (with_rule (with_rule (with_rule (with_rule (with_rule (with_rule (with_rule (new_app (codes "serve")) port_option) address_option) workers_option) until_option) drain_option) metrics_option) log_option)
-    keep_parked_option) declared_groups_option) per_address_option
+    with_rule (with_rule (with_rule (with_rule (with_rule (with_rule (with_rule (with_rule (with_rule (with_rule (with_rule (with_rule (new_app (codes "serve")) port_option) address_option) workers_option) until_option) drain_option) metrics_option) log_option)
+    keep_parked_option) declared_groups_option) per_address_option) max_expiry_option) max_keep_alive_option
 
 -- `serve`, with these before them
 abbrev pub serve_command : App
@@ -79,9 +79,11 @@ pub record IsServiceBy (rows : List Row) (service : ServeOptions) : Type 0 where
   pub keep_parked : first_of (codes "keep-parked") rows ≡ Some (flag_word service.keep_parked)
   pub declared_groups : first_of (codes "declared-groups") rows ≡ Some (flag_word service.declared_groups)
   pub per_address : HasNumber (codes "per-address") 0 65535 rows service.per_address
-  pub capacity : HaveCapacity rows service.setup.capacity
-  pub max_inflight : HaveMaxInflight rows service.setup.max_inflight
-  pub groups : AddsEach [] (pairs_in rows) service.setup.groups
+  pub max_expiry : HasNumberIf (codes "max-expiry") 1 4294967295 rows service.limits.max_expiry
+  pub max_keep_alive : HasNumberIf (codes "max-keep-alive") 1 65535 rows service.limits.max_keep_alive
+  pub capacity : HaveCapacity rows service.capacity
+  pub max_inflight : HaveMaxInflight rows service.limits.max_inflight
+  pub groups : AddsEach [] (pairs_in rows) service.groups
 
 -- clap finds no fault in the words, and reads the command of that name in them, with these values of its options
 abbrev pub AreReadAs : List Text → Text → List Row → Type 0

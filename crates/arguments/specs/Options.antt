@@ -1,5 +1,5 @@
 -- The options of the commands, and the values that they have (profile).
-use Rattle.std.specs.Prelude.{◌≡◌, ℕ, ◌≤◌, codes, true, List, ◌∷◌, [], Some, pos, unwrap_or}
+use Rattle.std.specs.Prelude.{◌≡◌, ℕ, ◌≤◌, codes, true, List, ◌∷◌, [], Option, Some, None, pos, unwrap_or}
 use Rattle.std.specs.Str.Parse.{IsNumeral, digits_value, without_leading_plus}
 use Rattle.clap.specs.Words.{Row, Rule, Text, all_of, new_rule, one_of}
 use Rattle.clap.specs.declared.builder.action.ArgAction.TheVariants.{Append, SetTrue}
@@ -116,6 +116,22 @@ per_address_option = record (new_rule (codes "per-address")) {
   defaults = codes "0" ∷ [];
 }
 
+-- `--max-expiry SECONDS`, at most once: a number from 1 to 4294967295
+abbrev pub max_expiry_option : Rule
+max_expiry_option = record (new_rule (codes "max-expiry")) {
+  long = Some (codes "max-expiry");
+  value_names = 1;
+  parser = Some (Signed (pos 1) (pos 4294967295));
+}
+
+-- `--max-keep-alive SECONDS`, at most once: a number from 1 to 65535
+abbrev pub max_keep_alive_option : Rule
+max_keep_alive_option = record (new_rule (codes "max-keep-alive")) {
+  long = Some (codes "max-keep-alive");
+  value_names = 1;
+  parser = Some (Signed (pos 1) (pos 65535));
+}
+
 -- ---- the values that they have
 
 -- a text spells a number in decimal digits, after a plus or none
@@ -129,6 +145,11 @@ pub record HasNumber (id : Text) (least most : ℕ) (rows : List Row) (number : 
   pub spelled : Spells text number
   pub from : least ≤ number
   pub to : number ≤ most
+
+-- the option has no value, or its value is this number, and lies in this range
+abbrev pub HasNumberIf : Text → ℕ → ℕ → List Row → Option ℕ → Type 0
+HasNumberIf id least most rows None = one_of id rows ≡ None
+HasNumberIf id least most rows (Some number) = HasNumber id least most rows number
 
 -- that of `--capacity` is one from 1 to 65536
 abbrev pub HaveCapacity : List Row → ℕ → Type 0

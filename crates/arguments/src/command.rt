@@ -5,8 +5,8 @@ ghost use Rattle.clap.specs.Words.{app_of, kind_of};
 ghost use Rattle.arguments.specs.CommandLine.{command_line, command_named, serve_command, AskFor, SpellNoRequest};
 
 use crate::options::{
-    address, capacity, declared_groups, drain, group, keep_parked, log, max_inflight, metrics,
-    per_address, port, until, workers,
+    address, capacity, declared_groups, drain, group, keep_parked, log, max_expiry, max_inflight,
+    max_keep_alive, metrics, per_address, port, until, workers,
 };
 use crate::service::ServeOptions;
 use crate::serving::service_of;
@@ -106,7 +106,7 @@ pub(crate) fn command_named<'a>(
         .arg(group(alloc))
 }
 
-/// `serve` and its thirteen options.
+/// `serve` and its fifteen options.
 pub(crate) fn serve_command<'a>(alloc: Global) -> Result<Command<'a>, AllocError>
     ensures { IfOk result (λ command. app_of command ≡ serve_command) }
 {
@@ -124,6 +124,8 @@ pub(crate) fn serve_command<'a>(alloc: Global) -> Result<Command<'a>, AllocError
         .arg(keep_parked(alloc))?
         .arg(declared_groups(alloc))?
         .arg(per_address(alloc))?
+        .arg(max_expiry(alloc))?
+        .arg(max_keep_alive(alloc))?
         .arg(capacity(alloc))?
         .arg(max_inflight(alloc))?
         .arg(group(alloc))

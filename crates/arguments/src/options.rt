@@ -1,7 +1,7 @@
 //! The options of the commands.
 ghost use Rattle.std.specs.Prelude.{◌≡◌};
 ghost use Rattle.clap.specs.Words.{rule_of};
-ghost use Rattle.arguments.specs.Options.{address_option, capacity_option, declared_groups_option, drain_option, group_option, keep_parked_option, log_option, max_inflight_option, metrics_option, per_address_option, port_option, until_option, workers_option};
+ghost use Rattle.arguments.specs.Options.{address_option, capacity_option, declared_groups_option, drain_option, group_option, keep_parked_option, log_option, max_expiry_option, max_inflight_option, max_keep_alive_option, metrics_option, per_address_option, port_option, until_option, workers_option};
 
 use clap::{Arg, ArgAction, value_parser};
 use std::alloc::Global;
@@ -169,5 +169,31 @@ pub(crate) fn per_address<'a>(alloc: Global) -> Arg<'a>
         .default_value("0")
         .help(
             "How many connections an address may have at once, 0 to 65535; one more is closed as it comes; at 0 as many as there are",
+        )
+}
+
+/// `--max-expiry SECONDS`.
+pub(crate) fn max_expiry<'a>(alloc: Global) -> Arg<'a>
+    ensures { rule_of result ≡ max_expiry_option }
+{
+    Arg::new(alloc, "max-expiry")
+        .long("max-expiry")
+        .value_name("SECONDS")
+        .value_parser(value_parser!(u32).range(1..=4_294_967_295))
+        .help(
+            "For how many seconds at most a session outlives its connection, 1 to 4294967295: a longer Session Expiry Interval is cut to that, and CONNACK says so; without this option there is no limit",
+        )
+}
+
+/// `--max-keep-alive SECONDS`.
+pub(crate) fn max_keep_alive<'a>(alloc: Global) -> Arg<'a>
+    ensures { rule_of result ≡ max_keep_alive_option }
+{
+    Arg::new(alloc, "max-keep-alive")
+        .long("max-keep-alive")
+        .value_name("SECONDS")
+        .value_parser(value_parser!(u32).range(1..=65_535))
+        .help(
+            "The longest Keep Alive of a client, 1 to 65535 seconds: one that asks for a longer one, or for none, has this one, as the Server Keep Alive of CONNACK says; without this option there is no limit",
         )
 }

@@ -2,7 +2,8 @@
 ghost use Rattle.std.specs.Prelude.{◌≤◌};
 
 use broker_log::Level;
-use conn_rules::Setup;
+use conn_rules::{ClientLimits, QueueCapacity};
+use mqtt_topic::Routes;
 use std::net::Ipv4Addr;
 
 /// Until when a broker on TCP serves.
@@ -37,7 +38,11 @@ pub struct ServeOptions {
     pub declared_groups: bool,
     /// How many connections an address may have at once, 0 to 65535; at 0 as many as there are.
     pub per_address: u32,
-    /// What its groups begin with.
-    pub setup: Setup,
+    /// What it grants a client at most.
+    pub limits: ClientLimits,
+    /// How many messages may wait in the queue of each group.
+    pub capacity: QueueCapacity,
+    /// The shares that are bound from the start, each to the slot of its group.
+    pub groups: Routes,
     ghost few: { (1 ≤ workers) × (workers ≤ 64) },
 }

@@ -1,8 +1,8 @@
 //! What a broker on TCP begins with, by the options of `serve`.
-ghost use Rattle.std.specs.Prelude.{◌≡◌, ◌≢◌, ◌⊎◌, Bool, ℕ, codes, IfOk, IfErr, MatchOption, Some};
+ghost use Rattle.std.specs.Prelude.{◌≡◌, ◌≢◌, ◌≤◌, ◌⊎◌, Bool, ℕ, codes, IfOk, IfErr, MatchOption, Option, Some, IfSome};
 ghost use Rattle.clap.specs.Words.{first_of, found_of, kind_of, rows_of};
 ghost use Rattle.clap.specs.declared.error.kind.ErrorKind.TheVariants as kinds;
-ghost use Rattle.arguments.specs.Options.{HasNumber, HaveCapacity, HaveMaxInflight};
+ghost use Rattle.arguments.specs.Options.{HasNumber, HasNumberIf, HaveCapacity, HaveMaxInflight};
 ghost use Rattle.arguments.specs.CommandLine.{IsServiceBy, flag_word, level_word, word_of};
 ghost use Rattle.arguments.specs.declared.service.ServeOptions.{ServeOptions as AnyService};
 
@@ -12,7 +12,7 @@ use crate::service::{ServeOptions, ServeUntil};
 use crate::setup::{capacity_of, limit_of};
 use broker_log::Level;
 use clap::{ArgMatches, Error};
-use conn_rules::{MaxInflight, QueueCapacity, Setup};
+use conn_rules::{ClientLimits, QueueCapacity};
 use std::alloc::{AllocError, Global};
 use std::net::Ipv4Addr;
 
@@ -24,8 +24,8 @@ struct Numbers {
     drain: u32,
     metrics: u16,
     per_address: u32,
+    limits: ClientLimits,
     capacity: QueueCapacity,
-    max_inflight: MaxInflight,
 }
 
 /// What a broker begins with, by the options.
@@ -68,11 +68,9 @@ pub(crate) fn service_of(alloc: Global, options: &ArgMatches) -> Result<ServeOpt
             keep_parked,
             declared_groups,
             per_address: numbers.per_address,
-            setup: Setup {
-                capacity: numbers.capacity,
-                max_inflight: numbers.max_inflight,
-                groups,
-            },
+            limits: numbers.limits,
+            capacity: numbers.capacity,
+            groups,
         }),
         Err(refused) => Err(wrong(alloc, refused.text.as_str())?),
     }
@@ -135,14 +133,18 @@ fn numbers_of(options: &ArgMatches) -> Option<Numbers>
         × HasNumber (codes "drain") 0 86400 (rows_of (found_of options.now)) numbers.drain
         × HasNumber (codes "metrics") 0 65535 (rows_of (found_of options.now)) numbers.metrics
         × HasNumber (codes "per-address") 0 65535 (rows_of (found_of options.now)) numbers.per_address
+        × HasNumberIf (codes "max-expiry") 1 4294967295 (rows_of (found_of options.now)) numbers.limits.max_expiry
+        × HasNumberIf (codes "max-keep-alive") 1 65535 (rows_of (found_of options.now)) numbers.limits.max_keep_alive
         × HaveCapacity (rows_of (found_of options.now)) numbers.capacity
-        × HaveMaxInflight (rows_of (found_of options.now)) numbers.max_inflight) }
+        × HaveMaxInflight (rows_of (found_of options.now)) numbers.limits.max_inflight) }
 {
     let port = number(options, "port", 0, 65_535)?;
     let workers = number(options, "workers", 1, 64)?;
     let drain = number(options, "drain", 0, 86_400)?;
     let metrics = number(options, "metrics", 0, 65_535)?;
     let per_address = number(options, "per-address", 0, 65_535)?;
+    let max_expiry = number_if(options, "max-expiry", 1, 4_294_967_295)?;
+    let max_keep_alive = number_if(options, "max-keep-alive", 1, 65_535)?;
     let messages = number(options, "capacity", 1, 65_536)?;
     let packets = number(options, "max-inflight", 1, 256)?;
     Some(Numbers {
@@ -151,9 +153,24 @@ fn numbers_of(options: &ArgMatches) -> Option<Numbers>
         drain,
         metrics: metrics as u16,
         per_address,
+        limits: ClientLimits {
+            max_inflight: limit_of(packets),
+            max_expiry,
+            max_keep_alive: keep_alive_of(max_keep_alive),
+        },
         capacity: capacity_of(messages),
-        max_inflight: limit_of(packets),
     })
+}
+
+/// The seconds of a keep alive, where it is limited.
+fn keep_alive_of(seconds: Option<u32>) -> Option<u16>
+    requires { IfSome seconds (λ seconds. seconds ≤ 65535) }
+    ensures { result ≡ seconds }
+{
+    match seconds {
+        Some(seconds) => Some(seconds as u16),
+        None => None,
+    }
 }
 
 /// The number in this range that an option has, as it was given or is left out.
@@ -165,5 +182,17 @@ fn number(options: &ArgMatches, id: &str, least: u32, most: u32) -> Option<u32>
     match options.get_one::<u32>(id) {
         Some(number) if least <= number && number <= most => Some(number),
         _ => None,
+    }
+}
+
+/// The number in this range that an option has; `None` where it is not given.
+fn number_if(options: &ArgMatches, id: &str, least: u32, most: u32) -> Option<Option<u32>>
+    ensures { MatchOption result
+        ((number : Option ℕ) → ¬ HasNumberIf id.now least most (rows_of (found_of options.now)) number)
+        (HasNumberIf id.now least most (rows_of (found_of options.now))) }
+{
+    match options.get_str(id) {
+        None => Some(None),
+        Some(_) => Some(Some(number(options, id, least, most)?)),
     }
 }

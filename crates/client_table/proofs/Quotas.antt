@@ -103,7 +103,7 @@ opens number opening None after is within = subst IsCellWithinQuota (sym is) tt
 opens number opening (Some client) after is within = subst IsCellWithinQuota (sym is) within
 
 -- and it is within the limit that it is opened with
-pub limits : {P : Type 0} (limit number : ℕ) (opening : Opening) (before after : Option (ClientState P)) → Opens number opening before after → opening.max_inflight ≤ limit
+pub limits : {P : Type 0} (limit number : ℕ) (opening : Opening) (before after : Option (ClientState P)) → Opens number opening before after → opening.limits.max_inflight ≤ limit
     → IsCellWithinLimit limit before → IsCellWithinLimit limit after
 limits limit number opening None after is allowed within = subst (IsCellWithinLimit limit) (sym is) allowed
 limits limit number opening (Some client) after is allowed within = subst (IsCellWithinLimit limit) (sym is) within

@@ -83,7 +83,7 @@ pub fn returned_first_law<P: HoldingPlace, S: Supply<P>>()
 
 /// **The quota is kept** (section 4.9), whatever happens to the client in a cell, with memory and without: of the PUBLISH packets that it was
 /// sent on its connection, those that wait for their PUBACK are never more than the Receive Maximum that its terms have, and never more than 256. And
-/// these terms are never more than the limit that the connection was opened with (`opens_limited` .., profile).
+/// this Receive Maximum is never more than the limit that the connection was opened with (`opens_limited` .., profile).
 pub fn quota_law<P: HoldingPlace, S: Supply<P>>()
     ensures opens { (number : ℕ) (opening : Opening) (before after : Option (ClientState P)) →
         Opens number opening before after → IsCellWithinQuota before → IsCellWithinQuota after }
@@ -94,7 +94,7 @@ pub fn quota_law<P: HoldingPlace, S: Supply<P>>()
     ensures ends { (now : ℕ) (input : Input) (more : List StepOutput) (result : Result (Unit {0}) NoMemory) (before after : Option (ClientState P)) (old new : S) →
         EndsFor S.call P.slot_of old before now input more result after new → IsCellWithinQuota before → IsCellWithinQuota after }
     ensures opens_limited { (limit number : ℕ) (opening : Opening) (before after : Option (ClientState P)) →
-        Opens number opening before after → opening.max_inflight ≤ limit → IsCellWithinLimit limit before → IsCellWithinLimit limit after }
+        Opens number opening before after → opening.limits.max_inflight ≤ limit → IsCellWithinLimit limit before → IsCellWithinLimit limit after }
     ensures receives_limited { (limit now : ℕ) (piece : List ℕ) (more : List StepOutput) (result : Result (Unit {0}) NoMemory) (before after : Option (ClientState P)) (old new : S) →
         Receives S.call P.slot_of old before now piece more result after new → IsCellWithinLimit limit before → IsCellWithinLimit limit after }
     ensures ticks_limited { (limit now : ℕ) (more : List StepOutput) (result : Result (Unit {0}) NoMemory) (before after : Option (ClientState P)) (old new : S) →

@@ -5,7 +5,7 @@ use Rattle.mqtt_packet.specs.declared.packet.Packet.TheVariants as packets
 use Rattle.group_jobs.specs.Stamps.{Held}
 use Rattle.session_desk.specs.declared.session.Session.{Session}
 use Rattle.session_desk.specs.declared.session.Membership.{Membership}
-use Rattle.conn_rules.specs.Connecting.{is_given_expiry}
+use Rattle.conn_rules.specs.Connecting.{is_given_expiry, granted_expiry}
 use Rattle.conn_supply.specs.declared.reply.Reply.{Reply}
 use Rattle.conn_supply.specs.SupplyCalls.{SupplyCall}
 use Rattle.conn_supply.specs.Memberships.{with_membership, with_subscription}
@@ -39,7 +39,7 @@ expiring connected seconds = with_session connected (record {
 -- 3.14.2.2.2: an expiry at the end takes the place of the session's, but a session that ends with its connection may not be given one
 abbrev pub DisconnectsIf : {P : Type 0} → Bool → ConnectedClient P → ℕ → ConnectedClient P → Reply → Type 0
 DisconnectsIf true connected seconds connected' reply = (connected' ≡ connected) × (reply ≡ closing_with 0x82)
-DisconnectsIf false connected seconds connected' reply = (connected' ≡ expiring connected seconds) × (reply ≡ closed None)
+DisconnectsIf false connected seconds connected' reply = (connected' ≡ expiring connected (granted_expiry connected.terms seconds)) × (reply ≡ closed None)
 
 abbrev pub Disconnects : {P : Type 0} → ConnectedClient P → Option ℕ → ConnectedClient P → Reply → Type 0
 Disconnects connected None connected' reply = (connected' ≡ connected) × (reply ≡ closed None)

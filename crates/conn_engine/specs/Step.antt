@@ -10,8 +10,9 @@ use Rattle.member_window.specs.Contents.{Contents}
 use Rattle.session_desk.specs.declared.session.Membership.{Membership}
 use Rattle.conn_rules.specs.declared.connecting.FirstAnswer.{FirstAnswer}
 use Rattle.conn_rules.specs.declared.connecting.FirstAnswer.TheVariants as first
-use Rattle.conn_rules.specs.Connecting.{first_answer, terms_of}
+use Rattle.conn_rules.specs.Connecting.{first_answer, overrides_of, terms_of}
 use Rattle.conn_rules.specs.declared.hand_outs.HandOutTerms.{HandOutTerms}
+use Rattle.conn_rules.specs.declared.terms.ClientLimits.{ClientLimits}
 use Rattle.conn_rules.specs.Faults.{fault_code, fault_refusal}
 use Rattle.conn_rules.specs.KeepAlive.{is_overdue, is_late}
 use Rattle.conn_rules.specs.Packets.{disconnect}
@@ -36,10 +37,15 @@ use Rattle.conn_engine.specs.Ending.{down, Parts, Sweeps}
 use Rattle.conn_engine.specs.Connecting.{IsRefused, Attaches, FailsToAttach, TriesAgain, FailsAgain}
 use Rattle.conn_engine.specs.Answering.{Answers, FailsToAnswer, with_session}
 
--- what a CONNECT asks for that comes at this moment, where the broker has this limit
-abbrev pub request_of : ℕ → Connect → ℕ → ConnectRequest
-request_of max_inflight connect now =
-    record { client = connect.client_identifier; clean_start = connect.clean_start; terms = terms_of max_inflight connect; came = now }
+-- what a CONNECT asks for that comes at this moment, where the broker has these limits
+abbrev pub request_of : ClientLimits → Connect → ℕ → ConnectRequest
+request_of limits connect now = record {
+  client = connect.client_identifier;
+  clean_start = connect.clean_start;
+  terms = terms_of limits connect;
+  overrides = overrides_of limits connect;
+  came = now;
+}
 
 -- a packet came at this moment; where the clock went back, the later one stands
 abbrev pub hearing : {P : Type 0} → ConnectedClient P → ℕ → ConnectedClient P
@@ -99,11 +105,11 @@ module _ {S P : Type 0} (call : S → SupplyCall P → S → Type 0) (slot_of : 
   IsParted old connected now phase new = Parts call old connected.session now new × (phase ≡ Ended)
 
   -- the first packet
-  abbrev pub AnswersFirst : FirstAnswer → S → ℕ → ℕ → ℕ → Packet → ConnPhase P → Reply → S → Type 0
-  AnswersFirst first.Close old number max_inflight now packet phase reply new = IsClosed phase reply × (new ≡ old)
-  AnswersFirst (first.Refuse refusal) old number max_inflight now packet phase reply new = IsRefused refusal phase reply × (new ≡ old)
-  AnswersFirst first.Attach old number max_inflight now packet phase reply new =
-      (connect : Connect) × (packet ≡ packets.Connect connect) × Attaches call old number now (request_of max_inflight connect now) 0 phase reply new
+  abbrev pub AnswersFirst : FirstAnswer → S → ℕ → ClientLimits → ℕ → Packet → ConnPhase P → Reply → S → Type 0
+  AnswersFirst first.Close old number limits now packet phase reply new = IsClosed phase reply × (new ≡ old)
+  AnswersFirst (first.Refuse refusal) old number limits now packet phase reply new = IsRefused refusal phase reply × (new ≡ old)
+  AnswersFirst first.Attach old number limits now packet phase reply new =
+      (connect : Connect) × (packet ≡ packets.Connect connect) × Attaches call old number now (request_of limits connect now) 0 phase reply new
 
   -- the connection goes on, or its session is parked
   abbrev pub Concludes : S → ConnectedClient P → ℕ → Then → ConnPhase P → S → Type 0
@@ -138,7 +144,7 @@ module _ {S P : Type 0} (call : S → SupplyCall P → S → Type 0) (slot_of : 
   -- what an input does: the phase from then on, and the reply
   abbrev pub Reacts : S → ℕ → ConnPhase P → ℕ → Input → ConnPhase P → Reply → S → Type 0
   Reacts old number (Unconnected opened) now (inputs.Packet packet) phase reply new =
-      AnswersFirst (first_answer packet) old number opened.max_inflight now packet phase reply new
+      AnswersFirst (first_answer packet) old number opened.limits now packet phase reply new
   Reacts old number (Unconnected opened) now (inputs.Fault fault) phase reply new = IsRefusedIf (fault_refusal fault) phase reply × (new ≡ old)
   Reacts old number (Unconnected opened) now inputs.Tick phase reply new = Sweeps call old now 256 new × WaitsForConnect (is_late (now - opened.at)) opened phase reply
   Reacts old number (Unconnected opened) now inputs.EndOfInput phase reply new = IsClosed phase reply × (new ≡ old)
@@ -210,13 +216,13 @@ module _ {S P : Type 0} (call : S → SupplyCall P → S → Type 0) (slot_of : 
       (after : ConnectedClient P) × (mid : S) × FailsToAnswer call slot_of old number (hearing connected now) now packet after mid × Parts call mid after.session now new
 
   -- where an allocation failed for the first packet
-  abbrev pub FailsFirst : S → ℕ → ℕ → ℕ → Packet → S → Type 0
-  FailsFirst old number max_inflight now packet new =
-      (connect : Connect) × (packet ≡ packets.Connect connect) × FailsToAttach call old number now (request_of max_inflight connect now) new
+  abbrev pub FailsFirst : S → ℕ → ClientLimits → ℕ → Packet → S → Type 0
+  FailsFirst old number limits now packet new =
+      (connect : Connect) × (packet ≡ packets.Connect connect) × FailsToAttach call old number now (request_of limits connect now) new
 
   -- where an allocation failed for the reply
   abbrev pub FailsToReact : S → ℕ → ConnPhase P → ℕ → Input → S → Type 0
-  FailsToReact old number (Unconnected opened) now (inputs.Packet packet) new = FailsFirst old number opened.max_inflight now packet new
+  FailsToReact old number (Unconnected opened) now (inputs.Packet packet) new = FailsFirst old number opened.limits now packet new
   FailsToReact old number (Waiting request ticks) now inputs.Tick new = (mid : S) × Sweeps call old now 256 mid × FailsAgain call mid number now request new
   FailsToReact old number (Connected connected) now (inputs.Packet packet) new =
       (mid : S) × call old (WasKicked number false) mid × FailsOnPacket mid number connected now packet new

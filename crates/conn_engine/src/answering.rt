@@ -117,6 +117,6 @@ fn disconnect<P: HoldingPlace>(
     if connected.terms.is_given_expiry(seconds) {
         return Reply::closing_with(alloc, ReasonCode::PROTOCOL_ERROR);
     }
-    connected.session.expiry.seconds = seconds;
+    connected.session.expiry.seconds = connected.terms.granted_expiry(seconds);
     Reply::closed(None)
 }

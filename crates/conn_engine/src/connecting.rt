@@ -227,7 +227,7 @@ fn accept<P: HoldingPlace, S: Supply<P>>(
             };
             (
                 ConnPhase::Connected(connected),
-                Ok(Reply::going_on(Some(accepting(present, name)))),
+                Ok(Reply::going_on(Some(accepting(present, name, request.overrides)))),
             )
         }
         Err(NoMemory) => {

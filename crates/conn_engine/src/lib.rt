@@ -5,7 +5,7 @@
 //! or many may stand behind.
 //!
 //! ```
-//! let opening = Opening { at: now, max_inflight };
+//! let opening = Opening { at: now, limits };
 //! let mut conn = Conn::open(alloc, 0, opening);
 //! let next = conn.step(&mut supply, now, Input::Packet(connect), &mut packets)?; // a CONNACK, and what was sent before
 //! let next = conn.step(&mut supply, now, Input::Tick, &mut packets)?; // what has come for its client since

@@ -1,12 +1,13 @@
 //! How far a connection has come.
 ghost use Rattle.std.specs.Prelude.{◌≡◌, ◌↔◌, IsTrue};
 ghost use Rattle.session_desk.specs.declared.session.Membership.TheVariants.{NotMember};
+ghost use Rattle.conn_rules.specs.Connecting.{inflight_alone};
 ghost use Rattle.conn_engine.specs.declared.phase.ConnPhase.TheVariants as phases;
 ghost use Rattle.conn_engine.specs.Answering.{joining};
 ghost use Rattle.conn_engine.specs.Phases.{IsConnected};
 ghost use Rattle.conn_engine.specs.Step.{hand_out_terms};
 
-use conn_rules::{HandOutTerms, MaxInflight, Terms};
+use conn_rules::{ClientLimits, HandOutTerms, MaxInflight, Overrides, Terms};
 use group_jobs::Envelope;
 use mqtt_packet::Text;
 use session_desk::{Membership, Session};
@@ -19,8 +20,10 @@ pub(crate) struct ConnectRequest {
     pub client: Text,
     /// An earlier session of the client is discarded (section 3.1.2.4).
     pub clean_start: bool,
-    /// What it asked for.
+    /// What it asked for, within the broker's limits.
     pub terms: Terms,
+    /// What of it is not as it asked.
+    pub overrides: Overrides,
     /// The moment at which the CONNECT came, in milliseconds.
     pub came: u64,
 }
@@ -29,7 +32,7 @@ pub(crate) struct ConnectRequest {
 pub(crate) struct ConnectedClient<P> {
     /// The session of the client.
     pub session: Session<Envelope, P>,
-    /// What the client asked for.
+    /// What the client asked for, within the broker's limits.
     pub terms: Terms,
     /// The moment at which its last packet came, in milliseconds.
     pub heard: u64,
@@ -84,18 +87,18 @@ impl<P> ConnectedClient<P> {
 pub struct Opening {
     /// The moment, in milliseconds.
     pub at: u64,
-    /// How many messages its client has unacknowledged at most, whatever its Receive Maximum.
-    pub max_inflight: MaxInflight,
+    /// What its client is granted at most.
+    pub limits: ClientLimits,
 }
 
 impl Opening {
-    /// One at this moment in milliseconds, with the highest limit.
+    /// One at this moment in milliseconds, with the highest limit of unacknowledged messages, and no other.
     pub fn plain(at: u64) -> Opening
-        ensures { result ≡ record { at = at; max_inflight = 256 } }
+        ensures { result ≡ record { at = at; limits = inflight_alone 256 } }
     {
         Opening {
             at,
-            max_inflight: MaxInflight::most(),
+            limits: ClientLimits::inflight_alone(MaxInflight::most()),
         }
     }
 }

@@ -16,8 +16,8 @@ use crate::ending::{give_up, part_as_is, sweep};
 use crate::input::Input;
 use crate::phase::{ConnPhase, ConnectRequest, ConnectedClient, Opening};
 use conn_rules::{
-    FirstAnswer, MaxInflight, answer_to_first, disconnect, fault_code, fault_refusal, is_late,
-    is_overdue, terms_of,
+    ClientLimits, FirstAnswer, answer_to_first, disconnect, fault_code, fault_refusal, is_late,
+    is_overdue, overrides_of, terms_of,
 };
 use conn_supply::{HoldingPlace, NoMemory, Reply, Supply, Then};
 use mqtt_packet::{Connect, Packet, ReasonCode};
@@ -119,7 +119,7 @@ fn react_unconnected<P: HoldingPlace, S: Supply<P>>(
     ensures visiting { S.visiting supply.new ≡ S.visiting supply.old }
 {
     match input {
-        Input::Packet(packet) => answer_first(supply, number, opened.max_inflight, now, packet),
+        Input::Packet(packet) => answer_first(supply, number, opened.limits, now, packet),
         Input::Fault(fault) => match fault_refusal(fault) {
             Some(refusal) => refuse(refusal),
             None => close(),
@@ -141,14 +141,14 @@ fn react_unconnected<P: HoldingPlace, S: Supply<P>>(
 fn answer_first<P: HoldingPlace, S: Supply<P>>(
     supply: &mut S,
     number: u16,
-    max_inflight: MaxInflight,
+    limits: ClientLimits,
     now: u64,
     packet: Packet,
 ) -> (ConnPhase<P>, Result<Reply, NoMemory>)
     requires known { number < 1024 }
     ensures answered { MatchResult result.1
-        (λ reply. AnswersFirst S.call P.slot_of (first_answer packet) supply.old number max_inflight now packet result.0 reply supply.new)
-        (λ _. (result.0 ≡ phases.Ended) × FailsFirst S.call P.slot_of supply.old number max_inflight now packet supply.new) }
+        (λ reply. AnswersFirst S.call P.slot_of (first_answer packet) supply.old number limits now packet result.0 reply supply.new)
+        (λ _. (result.0 ≡ phases.Ended) × FailsFirst S.call P.slot_of supply.old number limits now packet supply.new) }
     ensures sound { IsSoundPhase P.has_out result.0 }
     ensures visiting { S.visiting supply.new ≡ S.visiting supply.old }
 {
@@ -161,7 +161,7 @@ fn answer_first<P: HoldingPlace, S: Supply<P>>(
             drop(packet);
             refuse(refusal)
         }
-        FirstAnswer::Attach => connect(supply, number, max_inflight, now, packet),
+        FirstAnswer::Attach => connect(supply, number, limits, now, packet),
     }
 }
 
@@ -170,15 +170,15 @@ fn answer_first<P: HoldingPlace, S: Supply<P>>(
 fn connect<P: HoldingPlace, S: Supply<P>>(
     supply: &mut S,
     number: u16,
-    max_inflight: MaxInflight,
+    limits: ClientLimits,
     now: u64,
     packet: Packet,
 ) -> (ConnPhase<P>, Result<Reply, NoMemory>)
     requires known { number < 1024 }
     requires opens { first_answer packet ≡ first.Attach }
     ensures answered { MatchResult result.1
-        (λ reply. AnswersFirst S.call P.slot_of first.Attach supply.old number max_inflight now packet result.0 reply supply.new)
-        (λ _. (result.0 ≡ phases.Ended) × FailsFirst S.call P.slot_of supply.old number max_inflight now packet supply.new) }
+        (λ reply. AnswersFirst S.call P.slot_of first.Attach supply.old number limits now packet result.0 reply supply.new)
+        (λ _. (result.0 ≡ phases.Ended) × FailsFirst S.call P.slot_of supply.old number limits now packet supply.new) }
     ensures sound { IsSoundPhase P.has_out result.0 }
     ensures visiting { S.visiting supply.new ≡ S.visiting supply.old }
 {
@@ -188,7 +188,7 @@ fn connect<P: HoldingPlace, S: Supply<P>>(
                 supply,
                 number,
                 now,
-                request_of(max_inflight, connect.into_inner(), now),
+                request_of(limits, connect.into_inner(), now),
                 0,
             )
         }
@@ -197,14 +197,16 @@ fn connect<P: HoldingPlace, S: Supply<P>>(
 }
 
 /// What a CONNECT asks for that comes at this moment.
-fn request_of(max_inflight: MaxInflight, connect: Connect, now: u64) -> ConnectRequest
-    ensures { result ≡ request_of max_inflight connect now }
+fn request_of(limits: ClientLimits, connect: Connect, now: u64) -> ConnectRequest
+    ensures { result ≡ request_of limits connect now }
 {
-    let terms = terms_of(max_inflight, &connect);
+    let terms = terms_of(&limits, &connect);
+    let overrides = overrides_of(&limits, &connect);
     ConnectRequest {
         client: connect.client_identifier,
         clean_start: connect.clean_start,
         terms,
+        overrides,
         came: now,
     }
 }

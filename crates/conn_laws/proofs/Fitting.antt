@@ -18,6 +18,7 @@ use Rattle.session_desk.specs.declared.session.Session.{Session}
 use Rattle.session_desk.specs.declared.session.Membership.{Membership}
 use Rattle.session_desk.specs.declared.session.Membership.TheVariants.{NotMember, Member, Leaving}
 use Rattle.session_desk.specs.Attaching.{Request}
+use Rattle.conn_rules.specs.declared.terms.ClientLimits.{ClientLimits}
 use Rattle.conn_rules.specs.Connecting.{is_under, connect_answer, first_answer}
 use Rattle.conn_rules.specs.HandOuts.{is_discarded, is_message_too_long}
 use Rattle.conn_rules.specs.Packets.{job, refusing}
@@ -226,16 +227,16 @@ module _ {S P : Type 0} (call : S → SupplyCall P → S → Type 0) (slot_of : 
   attached (Err errors.NoName) asks before old new request ticks phase reply asked_for attaches its takes = ended phase attaches.0.over
   attached (Err errors.Memory) asks before old new request ticks phase reply asked_for attaches its takes = absurd attaches
 
-  answered_first : (answer : FirstAnswer) (opened : Opening) (old new : S) (number max_inflight now : ℕ) (packet : Packet) (phase : ConnPhase P) (reply : Reply) → first_answer packet ≡ answer
-      → AnswersFirst call slot_of answer old number max_inflight now packet phase reply new → maximum_named {P = P} (Unconnected opened) (inputs.Packet packet) ≡ maximum → Holds phase
-  answered_first first.Close opened old new number max_inflight now packet phase reply is answers its = ended phase answers.0.over
-  answered_first (first.Refuse refusal) opened old new number max_inflight now packet phase reply is answers its = ended phase answers.0.over
-  answered_first first.Attach opened old new number max_inflight now packet phase reply is answers its =
+  answered_first : (answer : FirstAnswer) (opened : Opening) (old new : S) (number : ℕ) (limits : ClientLimits) (now : ℕ) (packet : Packet) (phase : ConnPhase P) (reply : Reply) → first_answer packet ≡ answer
+      → AnswersFirst call slot_of answer old number limits now packet phase reply new → maximum_named {P = P} (Unconnected opened) (inputs.Packet packet) ≡ maximum → Holds phase
+  answered_first first.Close opened old new number limits now packet phase reply is answers its = ended phase answers.0.over
+  answered_first (first.Refuse refusal) opened old new number limits now packet phase reply is answers its = ended phase answers.0.over
+  answered_first first.Attach opened old new number limits now packet phase reply is answers its =
       let connect = answers.0 in
       let attaches = answers.2 in
       let named : connect.properties.maximum_packet_size ≡ maximum = sym (ap (λ p. maximum_named {P = P} (Unconnected opened) (inputs.Packet p)) answers.1) ∙ its in
       let takes = subst TakesSmall named (asks_taking connect (sym (ap first_answer answers.1) ∙ is)) in
-      attached attaches.answer _ old attaches.mid new (request_of max_inflight connect now) 0 phase reply attaches.asked_for attaches.answered named takes
+      attached attaches.answer _ old attaches.mid new (request_of limits connect now) 0 phase reply attaches.asked_for attaches.answered named takes
 
   refused_if : (refusal : Option ConnectRefusal) (phase : ConnPhase P) (reply : Reply) → IsRefusedIf refusal phase reply → Holds phase
   refused_if (Some refusal) phase reply refused = ended phase refused.over
@@ -305,7 +306,7 @@ module _ {S P : Type 0} (call : S → SupplyCall P → S → Type 0) (slot_of : 
 
   reacted : (phase : ConnPhase P) (input : Input) (old new : S) (number now : ℕ) (phase' : ConnPhase P) (reply : Reply)
       → Reacts call slot_of old number phase now input phase' reply new → maximum_named phase input ≡ maximum → Holds phase → Holds phase'
-  reacted (Unconnected opened) (inputs.Packet packet) old new number now phase' reply reacts its holds = answered_first _ opened old new number opened.max_inflight now packet phase' reply refl reacts its
+  reacted (Unconnected opened) (inputs.Packet packet) old new number now phase' reply reacts its holds = answered_first _ opened old new number opened.limits now packet phase' reply refl reacts its
   reacted (Unconnected opened) (inputs.Fault fault) old new number now phase' reply reacts its holds = refused_if _ phase' reply reacts.0
   reacted (Unconnected opened) inputs.Tick old new number now phase' reply reacts its holds = waits_for_connect _ opened phase' reply reacts.1
   reacted (Unconnected opened) inputs.EndOfInput old new number now phase' reply reacts its holds = ended phase' reacts.0.over
@@ -346,7 +347,7 @@ module _ {S P : Type 0} (call : S → SupplyCall P → S → Type 0) (slot_of : 
     (follows : (maximum : Option ℕ) → TakesSmall maximum → (packet : Packet) → Is packet → Are maximum packet) where
   -- the answer to the first packet
   first_replied : (answer : FirstAnswer) (opened : Opening) (old new : S) (number now : ℕ) (packet : Packet) (phase : ConnPhase P) (reply : Reply) → first_answer packet ≡ answer
-      → AnswersFirst call slot_of answer old number opened.max_inflight now packet phase reply new → AllByRecursion Is (option_to_list reply.packet)
+      → AnswersFirst call slot_of answer old number opened.limits now packet phase reply new → AllByRecursion Is (option_to_list reply.packet)
       → AllByRecursion (Are (maximum_named {P = P} (Unconnected opened) (inputs.Packet packet))) (option_to_list reply.packet)
   first_replied first.Close opened old new number now packet phase reply is answers replies =
       subst (λ (r : Reply). AllByRecursion (Are (maximum_named {P = P} (Unconnected opened) (inputs.Packet packet))) (option_to_list r.packet)) (sym answers.0.told) tt

@@ -5,6 +5,7 @@ use Rattle.mqtt_packet.specs.declared.packet.Connect.{Connect}
 use Rattle.mqtt_packet.specs.declared.packet.ConnectRefusal.{ConnectRefusal}
 use Rattle.mqtt_packet.specs.declared.packet.Packet.{Packet}
 use Rattle.mqtt_packet.specs.declared.packet.Packet.TheVariants as packets
+use Rattle.conn_rules.specs.declared.terms.ClientLimits.{ClientLimits}
 use Rattle.conn_rules.specs.declared.connecting.FirstAnswer.{FirstAnswer}
 use Rattle.conn_rules.specs.declared.connecting.FirstAnswer.TheVariants as first
 use Rattle.conn_rules.specs.Connecting.{first_answer, is_given_expiry}
@@ -125,17 +126,17 @@ module _ {S P : Type 0} (call : S → SupplyCall P → S → Type 0) (AreAlike :
   unless_kicked true a a' b b' connected now Does Also s t r u alike both h k = taken_over a a' b b' connected now s t r u alike h k
   unless_kicked false a a' b b' connected now Does Also s t r u alike both h k = both h k
 
-  first_answered : (which : FirstAnswer) (a a' b b' : S) (number max_inflight now : ℕ) (packet : Packet) (s t : ConnPhase P) (r u : Reply) → AreAlike a b
-      → AnswersFirst call slot_of which a number max_inflight now packet s r a' → AnswersFirst call slot_of which b number max_inflight now packet t u b' → Agree s t r u a' b'
-  first_answered first.Close a a' b b' number max_inflight now packet s t r u alike h k = (closed s t r u h.0 k.0, calls.still call AreAlike answers a a' b b' alike h.1 k.1)
-  first_answered (first.Refuse refusal) a a' b b' number max_inflight now packet s t r u alike h k = (refused refusal s t r u h.0 k.0, calls.still call AreAlike answers a a' b b' alike h.1 k.1)
-  first_answered first.Attach a a' b b' number max_inflight now packet s t r u alike h k =
+  first_answered : (which : FirstAnswer) (a a' b b' : S) (number : ℕ) (limits : ClientLimits) (now : ℕ) (packet : Packet) (s t : ConnPhase P) (r u : Reply) → AreAlike a b
+      → AnswersFirst call slot_of which a number limits now packet s r a' → AnswersFirst call slot_of which b number limits now packet t u b' → Agree s t r u a' b'
+  first_answered first.Close a a' b b' number limits now packet s t r u alike h k = (closed s t r u h.0 k.0, calls.still call AreAlike answers a a' b b' alike h.1 k.1)
+  first_answered (first.Refuse refusal) a a' b b' number limits now packet s t r u alike h k = (refused refusal s t r u h.0 k.0, calls.still call AreAlike answers a a' b b' alike h.1 k.1)
+  first_answered first.Attach a a' b b' number limits now packet s t r u alike h k =
       let connect = connect_is k.0 h.0 (sym k.1 ∙ h.1) in
-      connecting.attached call AreAlike answers a a' b b' number now (request_of max_inflight h.0 now) 0 s t r u alike h.2 (subst (λ c. Attaches call b number now (request_of max_inflight c now) 0 t u b') connect k.2)
+      connecting.attached call AreAlike answers a a' b b' number now (request_of limits h.0 now) 0 s t r u alike h.2 (subst (λ c. Attaches call b number now (request_of limits c now) 0 t u b') connect k.2)
 
   reacted : (phase : ConnPhase P) (input : Input) (a a' b b' : S) (number now : ℕ) (s t : ConnPhase P) (r u : Reply) → AreAlike a b
       → Reacts call slot_of a number phase now input s r a' → Reacts call slot_of b number phase now input t u b' → Agree s t r u a' b'
-  reacted (Unconnected opened) (inputs.Packet packet) a a' b b' number now s t r u alike h k = first_answered (first_answer packet) a a' b b' number opened.max_inflight now packet s t r u alike h k
+  reacted (Unconnected opened) (inputs.Packet packet) a a' b b' number now s t r u alike h k = first_answered (first_answer packet) a a' b b' number opened.limits now packet s t r u alike h k
   reacted (Unconnected opened) (inputs.Fault fault) a a' b b' number now s t r u alike h k = (refused_if (fault_refusal fault) s t r u h.0 k.0, calls.still call AreAlike answers a a' b b' alike h.1 k.1)
   reacted (Unconnected opened) inputs.Tick a a' b b' number now s t r u alike h k =
       (waited (is_late (now - opened.at)) opened s t r u h.1 k.1, endings.swept call AreAlike answers 256 now a a' b b' alike h.0 k.0)

@@ -14,6 +14,7 @@ use Rattle.session_desk.specs.declared.session.Session.{Session}
 use Rattle.session_desk.specs.declared.session.Membership.{Membership}
 use Rattle.session_desk.specs.declared.session.Membership.TheVariants.{NotMember, Member, Leaving}
 use Rattle.mqtt_packet.specs.declared.packet.ConnectRefusal.{ConnectRefusal}
+use Rattle.conn_rules.specs.declared.terms.ClientLimits.{ClientLimits}
 use Rattle.conn_rules.specs.declared.connecting.FirstAnswer.{FirstAnswer}
 use Rattle.conn_rules.specs.declared.connecting.FirstAnswer.TheVariants as first
 use Rattle.conn_supply.specs.declared.reply.Then.{Then}
@@ -113,11 +114,11 @@ module _ {S P : Type 0} (call : S → SupplyCall P → S → Type 0) (slot_of : 
   attached (Err errors.NoName) old new request ticks phase reply attaches = ended phase attaches.0.over
   attached (Err errors.Memory) old new request ticks phase reply attaches = absurd attaches
 
-  answered_first : (answer : FirstAnswer) (old new : S) (number max_inflight now : ℕ) (packet : Packet) (phase : ConnPhase P) (reply : Reply)
-      → AnswersFirst call slot_of answer old number max_inflight now packet phase reply new → IsWithinQuota phase
-  answered_first first.Close old new number max_inflight now packet phase reply answers = ended phase answers.0.over
-  answered_first (first.Refuse refusal) old new number max_inflight now packet phase reply answers = ended phase answers.0.over
-  answered_first first.Attach old new number max_inflight now packet phase reply answers =
+  answered_first : (answer : FirstAnswer) (old new : S) (number : ℕ) (limits : ClientLimits) (now : ℕ) (packet : Packet) (phase : ConnPhase P) (reply : Reply)
+      → AnswersFirst call slot_of answer old number limits now packet phase reply new → IsWithinQuota phase
+  answered_first first.Close old new number limits now packet phase reply answers = ended phase answers.0.over
+  answered_first (first.Refuse refusal) old new number limits now packet phase reply answers = ended phase answers.0.over
+  answered_first first.Attach old new number limits now packet phase reply answers =
       attached answers.2.answer answers.2.mid new _ 0 phase reply answers.2.answered
 
   refused_if : (refusal : Option ConnectRefusal) (phase : ConnPhase P) (reply : Reply) → IsRefusedIf refusal phase reply → IsWithinQuota phase
@@ -184,7 +185,7 @@ module _ {S P : Type 0} (call : S → SupplyCall P → S → Type 0) (slot_of : 
 
   reacted : (phase : ConnPhase P) (input : Input) (old new : S) (number now : ℕ) (phase' : ConnPhase P) (reply : Reply)
       → Reacts call slot_of old number phase now input phase' reply new → IsWithinQuota phase → IsWithinQuota phase'
-  reacted (Unconnected opened) (inputs.Packet packet) old new number now phase' reply reacts within = answered_first _ old new number opened.max_inflight now packet phase' reply reacts
+  reacted (Unconnected opened) (inputs.Packet packet) old new number now phase' reply reacts within = answered_first _ old new number opened.limits now packet phase' reply reacts
   reacted (Unconnected opened) (inputs.Fault fault) old new number now phase' reply reacts within = refused_if _ phase' reply reacts.0
   reacted (Unconnected opened) inputs.Tick old new number now phase' reply reacts within = waits_for_connect _ opened phase' reply reacts.1
   reacted (Unconnected opened) inputs.EndOfInput old new number now phase' reply reacts within = ended phase' reacts.0.over

@@ -15,6 +15,7 @@ use Rattle.member_window.proofs.Lists.{contains_identifier}
 use Rattle.session_desk.specs.declared.session.Session.{Session}
 use Rattle.session_desk.specs.declared.session.Membership.{Membership}
 use Rattle.session_desk.specs.declared.session.Membership.TheVariants.{NotMember, Member, Leaving}
+use Rattle.conn_rules.specs.declared.terms.ClientLimits.{ClientLimits}
 use Rattle.conn_rules.specs.declared.connecting.FirstAnswer.{FirstAnswer}
 use Rattle.conn_rules.specs.declared.connecting.FirstAnswer.TheVariants as first
 use Rattle.conn_rules.specs.declared.publishing.PublishAnswer.{PublishAnswer}
@@ -277,11 +278,11 @@ module _ {S P : Type 0} (call : S → SupplyCall P → S → Type 0) where
     over : (old new : S) (number : ℕ) (phase : ConnPhase P) → phase ≡ Ended → Apart call old new → SessionStep call old number None (connected_of phase) new
     over old new number phase is calls = is_at call old new number None phase _ is (stays_out call old new number calls)
 
-    first_answered : (answer : FirstAnswer) (old new : S) (number max_inflight now : ℕ) (packet : Packet) (phase : ConnPhase P) (reply : Reply)
-        → AnswersFirst call slot_of answer old number max_inflight now packet phase reply new → SessionStep call old number None (connected_of phase) new
-    first_answered first.Close old new number max_inflight now packet phase reply is = over old new number phase is.0.over (still call old new is.1)
-    first_answered (first.Refuse refusal) old new number max_inflight now packet phase reply is = over old new number phase is.0.over (still call old new is.1)
-    first_answered first.Attach old new number max_inflight now packet phase reply is =
+    first_answered : (answer : FirstAnswer) (old new : S) (number : ℕ) (limits : ClientLimits) (now : ℕ) (packet : Packet) (phase : ConnPhase P) (reply : Reply)
+        → AnswersFirst call slot_of answer old number limits now packet phase reply new → SessionStep call old number None (connected_of phase) new
+    first_answered first.Close old new number limits now packet phase reply is = over old new number phase is.0.over (still call old new is.1)
+    first_answered (first.Refuse refusal) old new number limits now packet phase reply is = over old new number phase is.0.over (still call old new is.1)
+    first_answered first.Attach old new number limits now packet phase reply is =
         attached call old old new new number now _ 0 phase reply (still call old old refl) is.2 (still call new new refl)
 
     refused_if : (refusal : Option ConnectRefusal) (phase : ConnPhase P) (reply : Reply) → IsRefusedIf refusal phase reply → phase ≡ Ended
@@ -296,7 +297,7 @@ module _ {S P : Type 0} (call : S → SupplyCall P → S → Type 0) where
     pub reacted : (phase : ConnPhase P) (input : Input) (old new : S) (number now : ℕ) (between : ConnPhase P) (reply : Reply) → IsNotEnding phase
         → Reacts call slot_of old number phase now input between reply new → SessionStepped old number phase input reply.next between new
     reacted (Unconnected opened) (inputs.Packet packet) old new number now between reply sound is =
-        session_steps old new number _ _ reply.next between (λ e f c. absurd c) (first_answered (first_answer packet) old new number opened.max_inflight now packet between reply is)
+        session_steps old new number _ _ reply.next between (λ e f c. absurd c) (first_answered (first_answer packet) old new number opened.limits now packet between reply is)
     reacted (Unconnected opened) (inputs.Fault fault) old new number now between reply sound is =
         session_steps old new number _ _ reply.next between (λ e f c. absurd c) (over old new number between (refused_if (fault_refusal fault) between reply is.0) (still call old new is.1))
     reacted (Unconnected opened) inputs.Tick old new number now between reply sound is =

@@ -12,6 +12,7 @@ use Rattle.session_desk.specs.declared.error.DeskError.{DeskError}
 use Rattle.session_desk.specs.declared.error.DeskError.TheVariants as errors
 use Rattle.session_desk.specs.declared.session.Membership.{Membership}
 use Rattle.session_desk.specs.declared.session.Session.{Session}
+use Rattle.conn_rules.specs.declared.terms.ClientLimits.{ClientLimits}
 use Rattle.conn_rules.specs.declared.connecting.FirstAnswer.{FirstAnswer}
 use Rattle.conn_rules.specs.declared.connecting.FirstAnswer.TheVariants as first
 use Rattle.conn_rules.specs.declared.publishing.PublishAnswer.{PublishAnswer}
@@ -102,11 +103,11 @@ module _ {S P : Type 0} (call : S → SupplyCall P → S → Type 0) (slot_of : 
   attached (Err errors.NoName) old new request ticks phase reply is = refuses phase reply _ is.0
   attached (Err errors.Memory) old new request ticks phase reply is = absurd is
 
-  answers_first : (answer : FirstAnswer) (old new : S) (number max_inflight now : ℕ) (packet : Packet) (phase : ConnPhase P) (reply : Reply)
-      → AnswersFirst call slot_of answer old number max_inflight now packet phase reply new → BringsNone reply
-  answers_first first.Close old new number max_inflight now packet phase reply is = closes phase reply is.0
-  answers_first (first.Refuse refusal) old new number max_inflight now packet phase reply is = refuses phase reply refusal is.0
-  answers_first first.Attach old new number max_inflight now packet phase reply is = attached is.2.answer is.2.mid new _ 0 phase reply is.2.answered
+  answers_first : (answer : FirstAnswer) (old new : S) (number : ℕ) (limits : ClientLimits) (now : ℕ) (packet : Packet) (phase : ConnPhase P) (reply : Reply)
+      → AnswersFirst call slot_of answer old number limits now packet phase reply new → BringsNone reply
+  answers_first first.Close old new number limits now packet phase reply is = closes phase reply is.0
+  answers_first (first.Refuse refusal) old new number limits now packet phase reply is = refuses phase reply refusal is.0
+  answers_first first.Attach old new number limits now packet phase reply is = attached is.2.answer is.2.mid new _ 0 phase reply is.2.answered
 
   -- what a connection with its session answers
   published : (answer : PublishAnswer) (old new : S) (number now : ℕ) (publish : Publish) (reply : Reply) → AnswersPublish call old number now publish answer reply new → BringsNone reply
@@ -152,7 +153,7 @@ module _ {S P : Type 0} (call : S → SupplyCall P → S → Type 0) (slot_of : 
 
   pub replied : (phase : ConnPhase P) (input : Input) (old new : S) (number now : ℕ) (between : ConnPhase P) (reply : Reply)
       → Reacts call slot_of old number phase now input between reply new → BringsNone reply
-  replied (Unconnected opened) (inputs.Packet packet) old new number now between reply is = answers_first (first_answer packet) old new number opened.max_inflight now packet between reply is
+  replied (Unconnected opened) (inputs.Packet packet) old new number now between reply is = answers_first (first_answer packet) old new number opened.limits now packet between reply is
   replied (Unconnected opened) (inputs.Fault fault) old new number now between reply is = refused_if (fault_refusal fault) between reply is.0
   replied (Unconnected opened) inputs.Tick old new number now between reply is = waits_for_connect _ opened between reply is.1
   replied (Unconnected opened) inputs.EndOfInput old new number now between reply is = closes between reply is.0

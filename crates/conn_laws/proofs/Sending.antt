@@ -23,12 +23,14 @@ use Rattle.session_desk.specs.declared.error.DeskError.TheVariants as errors
 use Rattle.session_desk.specs.declared.session.Membership.{Membership}
 use Rattle.session_desk.specs.declared.session.Membership.TheVariants.{NotMember, Member, Leaving}
 use Rattle.session_desk.specs.declared.session.Session.{Session}
+use Rattle.conn_rules.specs.declared.terms.ClientLimits.{ClientLimits}
 use Rattle.conn_rules.specs.declared.connecting.FirstAnswer.{FirstAnswer}
 use Rattle.conn_rules.specs.declared.connecting.FirstAnswer.TheVariants as first
 use Rattle.conn_rules.specs.declared.publishing.PublishAnswer.{PublishAnswer}
 use Rattle.conn_rules.specs.declared.publishing.PublishAnswer.TheVariants as answers
 use Rattle.conn_rules.specs.Connecting.{first_answer}
 use Rattle.conn_rules.specs.Faults.{fault_refusal}
+use Rattle.conn_rules.specs.declared.terms.Overrides.{Overrides}
 use Rattle.conn_rules.specs.Packets.{accepting, refusing, puback, suback, unsuback, disconnect}
 use Rattle.conn_rules.specs.Publishing.{publish_answer}
 use Rattle.conn_rules.specs.Subscribing.{most_entries, subscribe_refusal, unsubscribe_refusal}
@@ -107,23 +109,23 @@ answered_is_small : IsSmall packets.Pingresp
 answered_is_small = omega (arith, replies.answered)
 
 -- a CONNACK with an identifier that was assigned, where that is a text
-named_if : (present : Bool) (name : List ℕ) (text : Bool) → is_text name ≡ text → IsAnswer (accepting present (name_if text name))
-named_if present name true is = inr (record { present = present; name = name; text = is; is = refl })
-named_if present name false is = inl (replies.accepted present)
+named_if : (present : Bool) (name : List ℕ) (overrides : Overrides) (text : Bool) → is_text name ≡ text → IsAnswer (accepting present (name_if text name) overrides)
+named_if present name overrides true is = inr (record { present = present; name = name; overrides = overrides; text = is; is = refl })
+named_if present name overrides false is = inl (replies.accepted present overrides)
 
-assigning : (client : List ℕ) (who : Who) (present : Bool) → IsAnswer (accepting present (assigned client who))
-assigning [] who present = named_if present who.client (is_text who.client) refl
-assigning (byte ∷ bytes) who present = inl (replies.accepted present)
+assigning : (client : List ℕ) (who : Who) (present : Bool) (overrides : Overrides) → IsAnswer (accepting present (assigned client who) overrides)
+assigning [] who present overrides = named_if present who.client overrides (is_text who.client) refl
+assigning (byte ∷ bytes) who present overrides = inl (replies.accepted present overrides)
 
 -- .. and with one that a desk assigns
-desk_named_if : (present : Bool) (number : ℕ) (text : Bool) → IsSmall (accepting present (name_if text (assigned_name number)))
-desk_named_if present number true = replies.assigned_is_small present number
-desk_named_if present number false = replies.accepted present
+desk_named_if : (present : Bool) (number : ℕ) (overrides : Overrides) (text : Bool) → IsSmall (accepting present (name_if text (assigned_name number)) overrides)
+desk_named_if present number overrides true = replies.assigned_is_small present number overrides
+desk_named_if present number overrides false = replies.accepted present overrides
 
 -- of such a kind are the CONNACKs that a client is sent which is given the session of this answer
 abbrev pub MayAccept : {P : Type 0} → (Packet → Type 0) → List ℕ → Attached Held P → Type 0
-MayAccept Is client (New session ended) = (present : Bool) → Is (accepting present (assigned client session.identity))
-MayAccept Is client (Resumed session) = (present : Bool) → Is (accepting present (assigned client session.identity))
+MayAccept Is client (New session ended) = (present : Bool) (overrides : Overrides) → Is (accepting present (assigned client session.identity) overrides)
+MayAccept Is client (Resumed session) = (present : Bool) (overrides : Overrides) → Is (accepting present (assigned client session.identity) overrides)
 MayAccept Is client (Replace holder) = ⊤
 MayAccept Is client Busy = ⊤
 
@@ -164,8 +166,8 @@ module _ {S P : Type 0} (call : S → SupplyCall P → S → Type 0) (slot_of : 
   refuses phase reply refusal is = told reply _ is.told (one (refusing refusal) (refused_is_small refusal))
 
   accepts : (phase : ConnPhase P) (reply : Reply) (request : ConnectRequest) (present : Bool) (session : Session Held P)
-      → ((given : Bool) → Is (accepting given (assigned request.client session.identity))) → Accepts request present session phase reply → IsBrief reply
-  accepts phase reply request present session may is = told reply _ is.told (may present, tt)
+      → ((given : Bool) (overrides : Overrides) → Is (accepting given (assigned request.client session.identity) overrides)) → Accepts request present session phase reply → IsBrief reply
+  accepts phase reply request present session may is = told reply _ is.told (may present request.overrides, tt)
 
   waits : (fewer : Bool) (phase : ConnPhase P) (reply : Reply) (request : ConnectRequest) (ticks : ℕ) → WaitsAs fewer request ticks phase reply → IsBrief reply
   waits true phase reply request ticks is = told reply _ is.1 tt
@@ -193,7 +195,7 @@ module _ {S P : Type 0} (call : S → SupplyCall P → S → Type 0) (slot_of : 
   -- ---- a connection without its session
 
   resumes : (no : Bool) (old new : S) (request : ConnectRequest) (session : Session Held P) (phase : ConnPhase P) (reply : Reply)
-      → ((present : Bool) → Is (accepting present (assigned request.client session.identity))) → ResumesAs call no old request session phase reply new → IsBrief reply
+      → ((present : Bool) (overrides : Overrides) → Is (accepting present (assigned request.client session.identity) overrides)) → ResumesAs call no old request session phase reply new → IsBrief reply
   resumes true old new request session phase reply may is = refuses phase reply _ is.1
   resumes false old new request session phase reply may is = accepts phase reply request true session may is.1
 
@@ -211,11 +213,11 @@ module _ {S P : Type 0} (call : S → SupplyCall P → S → Type 0) (slot_of : 
   attached (Err errors.NoName) before old new number now request ticks phase reply asked_for is = refuses phase reply _ is.0
   attached (Err errors.Memory) before old new number now request ticks phase reply asked_for is = absurd is
 
-  answers_first : (answer : FirstAnswer) (old new : S) (number max_inflight now : ℕ) (packet : Packet) (phase : ConnPhase P) (reply : Reply)
-      → AnswersFirst call slot_of answer old number max_inflight now packet phase reply new → IsBrief reply
-  answers_first first.Close old new number max_inflight now packet phase reply is = closes phase reply is.0
-  answers_first (first.Refuse refusal) old new number max_inflight now packet phase reply is = refuses phase reply refusal is.0
-  answers_first first.Attach old new number max_inflight now packet phase reply is = attached is.2.answer old is.2.mid new number now _ 0 phase reply is.2.asked_for is.2.answered
+  answers_first : (answer : FirstAnswer) (old new : S) (number : ℕ) (limits : ClientLimits) (now : ℕ) (packet : Packet) (phase : ConnPhase P) (reply : Reply)
+      → AnswersFirst call slot_of answer old number limits now packet phase reply new → IsBrief reply
+  answers_first first.Close old new number limits now packet phase reply is = closes phase reply is.0
+  answers_first (first.Refuse refusal) old new number limits now packet phase reply is = refuses phase reply refusal is.0
+  answers_first first.Attach old new number limits now packet phase reply is = attached is.2.answer old is.2.mid new number now _ 0 phase reply is.2.asked_for is.2.answered
 
   -- ---- a connection with its session
 
@@ -279,7 +281,7 @@ module _ {S P : Type 0} (call : S → SupplyCall P → S → Type 0) (slot_of : 
 
   replied : (phase : ConnPhase P) (input : Input) (old new : S) (number now : ℕ) (between : ConnPhase P) (reply : Reply)
       → Reacts call slot_of old number phase now input between reply new → IsBrief reply
-  replied (Unconnected opened) (inputs.Packet packet) old new number now between reply is = answers_first (first_answer packet) old new number opened.max_inflight now packet between reply is
+  replied (Unconnected opened) (inputs.Packet packet) old new number now between reply is = answers_first (first_answer packet) old new number opened.limits now packet between reply is
   replied (Unconnected opened) (inputs.Fault fault) old new number now between reply is = refused_if (fault_refusal fault) between reply is.0
   replied (Unconnected opened) inputs.Tick old new number now between reply is = waits_for_connect _ opened between reply is.1
   replied (Unconnected opened) inputs.EndOfInput old new number now between reply is = closes between reply is.0
@@ -314,11 +316,12 @@ module _ {S P : Type 0} (call : S → SupplyCall P → S → Type 0) (slot_of : 
       → Reacts call slot_of old number phase now input between reply new → AreAnswers (option_to_list reply.packet)
   any_answers phase input old new number now between reply is = replied call slot_of IsAnswer (λ packet is. inl is) any_given phase input old new number now between reply is
 
-  named : (client : List ℕ) (session : Session Held P) → (client ≡ [] → HasAssignedName session) → (present : Bool) → IsSmall (accepting present (assigned client session.identity))
-  named [] session has present =
+  named : (client : List ℕ) (session : Session Held P) → (client ≡ [] → HasAssignedName session) → (present : Bool) (overrides : Overrides)
+      → IsSmall (accepting present (assigned client session.identity) overrides)
+  named [] session has present overrides =
       let its = has refl in
-      subst (λ name. IsSmall (accepting present (name_if (is_text name) name))) (sym its.1) (desk_named_if present its.0 (is_text (assigned_name its.0)))
-  named (byte ∷ bytes) session has present = replies.accepted present
+      subst (λ name. IsSmall (accepting present (name_if (is_text name) name) overrides)) (sym its.1) (desk_named_if present its.0 overrides (is_text (assigned_name its.0)))
+  named (byte ∷ bytes) session has present overrides = replies.accepted present overrides
 
   names_given : AreNamesAssigned call → (old new : S) (asks : Request) (answer : Attached Held P) → call old (Attach asks (Ok answer)) new → MayAccept IsSmall asks.client answer
   names_given assigns old new asks (New session ended) attaches = named asks.client session (λ none. assigns old new asks (New session ended) none attaches)

@@ -16,6 +16,7 @@ use Rattle.member_window.proofs.Lists.{contains_identifier}
 use Rattle.session_desk.specs.Everything.{place_in}
 use Rattle.session_desk.specs.declared.session.Membership.{Membership}
 use Rattle.session_desk.specs.declared.session.Membership.TheVariants.{NotMember, Member, Leaving}
+use Rattle.conn_rules.specs.declared.terms.ClientLimits.{ClientLimits}
 use Rattle.conn_rules.specs.declared.connecting.FirstAnswer.{FirstAnswer}
 use Rattle.conn_rules.specs.declared.connecting.FirstAnswer.TheVariants as first
 use Rattle.conn_rules.specs.declared.publishing.PublishAnswer.{PublishAnswer}
@@ -347,16 +348,16 @@ module _ {S P : Type 0} (call : S → SupplyCall P → S → Type 0) where
         behind call old answers.0 new (beside call (own_places (Connected connected)) (swept call 256 old answers.0 now answers.1))
         (heard (is_overdue connected.terms.keep_alive (now - connected.heard)) answers.0 new connected now phase reply answers.2)
 
-    first_answered : (answer : FirstAnswer) (old new : S) (number max_inflight now : ℕ) (packet : Packet) (phase : ConnPhase P) (reply : Reply)
-        → AnswersFirst call slot_of answer old number max_inflight now packet phase reply new → Plain call [] [] [] (own_places phase) old new
-    first_answered first.Close old new number max_inflight now packet phase reply answers = still call old new (ap own_places answers.0.over) answers.1
-    first_answered (first.Refuse refusal) old new number max_inflight now packet phase reply answers = still call old new (ap own_places answers.0.over) answers.1
-    first_answered first.Attach old new number max_inflight now packet phase reply answers = attached call old new number now _ 0 phase reply answers.2
+    first_answered : (answer : FirstAnswer) (old new : S) (number : ℕ) (limits : ClientLimits) (now : ℕ) (packet : Packet) (phase : ConnPhase P) (reply : Reply)
+        → AnswersFirst call slot_of answer old number limits now packet phase reply new → Plain call [] [] [] (own_places phase) old new
+    first_answered first.Close old new number limits now packet phase reply answers = still call old new (ap own_places answers.0.over) answers.1
+    first_answered (first.Refuse refusal) old new number limits now packet phase reply answers = still call old new (ap own_places answers.0.over) answers.1
+    first_answered first.Attach old new number limits now packet phase reply answers = attached call old new number now _ 0 phase reply answers.2
 
     -- an input of a connection
     pub reacted : (phase : ConnPhase P) (input : Input) (old new : S) (number now : ℕ) (between : ConnPhase P) (reply : Reply)
         → Reacts call slot_of old number phase now input between reply new → Walked [] [] old number now phase input reply.next (own_places between) new
-    reacted (Unconnected opened) (inputs.Packet packet) old new number now between reply is = idle old new number now _ _ reply.next (first_answered (first_answer packet) old new number opened.max_inflight now packet between reply is) (λ p b. b, λ e f c. c)
+    reacted (Unconnected opened) (inputs.Packet packet) old new number now between reply is = idle old new number now _ _ reply.next (first_answered (first_answer packet) old new number opened.limits now packet between reply is) (λ p b. b, λ e f c. c)
     reacted (Unconnected opened) (inputs.Fault fault) old new number now between reply is =
         idle old new number now _ _ reply.next (still call old new (refused_if (fault_refusal fault) between reply is.0) is.1) (λ p b. b, λ e f c. c)
     reacted (Unconnected opened) inputs.Tick old new number now between reply is =

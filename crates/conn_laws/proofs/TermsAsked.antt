@@ -76,11 +76,11 @@ module _ {S P : Type 0} (call : S → SupplyCall P → S → Type 0) (slot_of : 
   attached (Err errors.Memory) old new request ticks phase reply attaches within = absurd attaches
 
   answered_first : (answer : FirstAnswer) (old new : S) (number now : ℕ) (opened : Opening) (packet : Packet) (phase : ConnPhase P) (reply : Reply)
-      → AnswersFirst call slot_of answer old number opened.max_inflight now packet phase reply new → ((connect : Connect) → packet ≡ packets.Connect connect → Of (terms_of opened.max_inflight connect)) → Within phase
+      → AnswersFirst call slot_of answer old number opened.limits now packet phase reply new → ((connect : Connect) → packet ≡ packets.Connect connect → Of (terms_of opened.limits connect)) → Within phase
   answered_first first.Close old new number now opened packet phase reply answers asks = ended phase answers.0.over
   answered_first (first.Refuse refusal) old new number now opened packet phase reply answers asks = ended phase answers.0.over
   answered_first first.Attach old new number now opened packet phase reply answers asks =
-      attached answers.2.answer answers.2.mid new (request_of opened.max_inflight answers.0 now) 0 phase reply answers.2.answered (asks answers.0 answers.1)
+      attached answers.2.answer answers.2.mid new (request_of opened.limits answers.0 now) 0 phase reply answers.2.answered (asks answers.0 answers.1)
 
   refused_if : (refusal : Option ConnectRefusal) (phase : ConnPhase P) (reply : Reply) → IsRefusedIf refusal phase reply → Within phase
   refused_if (Some refusal) phase reply refused = ended phase refused.over
@@ -137,7 +137,7 @@ module _ {S P : Type 0} (call : S → SupplyCall P → S → Type 0) (slot_of : 
 
   -- a CONNECT that comes asks for such
   abbrev pub Asks : ConnPhase P → Input → Type 0
-  Asks phase input = (opened : Opening) (connect : Connect) → Open opened → phase ≡ Unconnected opened → input ≡ inputs.Packet (packets.Connect connect) → Of (terms_of opened.max_inflight connect)
+  Asks phase input = (opened : Opening) (connect : Connect) → Open opened → phase ≡ Unconnected opened → input ≡ inputs.Packet (packets.Connect connect) → Of (terms_of opened.limits connect)
 
   reacted : (phase : ConnPhase P) (input : Input) (old new : S) (number now : ℕ) (phase' : ConnPhase P) (reply : Reply)
       → Reacts call slot_of old number phase now input phase' reply new → Asks phase input → Within phase → Within phase'

@@ -17,7 +17,7 @@ pub record KeepsQuota (quota : ℕ) (window : Contents Held) : Type 0 where
 
 -- what a connection was opened with, asked for while it waits, or was given, lets no more packets be unacknowledged than this limit
 abbrev pub IsWithinLimit : {P : Type 0} → ℕ → ConnPhase P → Type 0
-IsWithinLimit limit (Unconnected opened) = opened.max_inflight ≤ limit
+IsWithinLimit limit (Unconnected opened) = opened.limits.max_inflight ≤ limit
 IsWithinLimit limit (Waiting request ticks) = request.terms.receive_maximum ≤ limit
 IsWithinLimit limit (Connected connected) = connected.terms.receive_maximum ≤ limit
 IsWithinLimit limit Ended = ⊤

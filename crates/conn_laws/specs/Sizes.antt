@@ -4,6 +4,7 @@ use Rattle.mqtt_packet.specs.declared.packet.Packet.{Packet}
 use Rattle.mqtt_packet.specs.Texts.{IsText}
 use Rattle.mqtt_wire.specs.Writing.{written}
 use Rattle.group_jobs.specs.declared.message.Message.{Message}
+use Rattle.conn_rules.specs.declared.terms.Overrides.{Overrides}
 use Rattle.conn_rules.specs.Packets.{accepting, job}
 
 -- a client that does not take packets of 64 bytes is refused (3.1.2.11.4, profile)
@@ -14,9 +15,10 @@ bytes_for_all = 64
 abbrev pub IsSmall : Packet → Type 0
 IsSmall packet = length (written packet) ≤ bytes_for_all
 
--- the most bytes that a packet of the broker has in all: a CONNACK has so many that assigns the longest text as a Client Identifier
+-- the most bytes that a packet of the broker has in all: a CONNACK has so many that assigns the longest text as a Client Identifier, and says
+-- that neither the expiry nor the keep alive is as the client asked
 abbrev pub most_bytes : ℕ
-most_bytes = 65556
+most_bytes = 65564
 
 abbrev pub IsShort : Packet → Type 0
 IsShort packet = length (written packet) ≤ most_bytes
@@ -33,8 +35,9 @@ IsLight message = (now : ℕ) (dup : Bool) (subscription : Option ℕ) (identifi
 pub record Assigns (packet : Packet) : Type 0 where
   pub present : Bool
   pub name : List ℕ
+  pub overrides : Overrides
   pub text : IsText name
-  pub is : packet ≡ accepting present (Some name)
+  pub is : packet ≡ accepting present (Some name) overrides
 
 -- a PUBLISH that hands a message on (3.3)
 pub record HandsOn (packet : Packet) : Type 0 where

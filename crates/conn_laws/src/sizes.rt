@@ -10,6 +10,7 @@ ghost use Rattle.mqtt_packet.specs.Texts.{IsText};
 ghost use Rattle.mqtt_wire.specs.Spelling.{Spells};
 ghost use Rattle.mqtt_wire.specs.Writing.{written, written_size, remaining_length};
 ghost use Rattle.session_desk.specs.Names.{assigned_name};
+ghost use Rattle.conn_rules.specs.declared.terms.Overrides.{Overrides};
 ghost use Rattle.conn_rules.specs.Packets.{accepting, refusing, job, puback, suback, unsuback, disconnect};
 ghost use Rattle.conn_rules.specs.Publishing.{message_of};
 ghost use Rattle.conn_rules.specs.Subscribing.{most_entries};
@@ -38,12 +39,12 @@ pub fn forwarded_law()
 {}
 
 /// **How long the other packets are** that the broker sends: a CONNACK (section 3.2) that accepts, with no identifier, with one that the
-/// desk assigns, and with any text; one that refuses, which a client takes that takes any CONNACK; a PUBACK (3.4); a SUBACK (3.9) and an
+/// desk assigns, and with any text, whatever of it is not as the client asked; one that refuses, which a client takes that takes any CONNACK; a PUBACK (3.4); a SUBACK (3.9) and an
 /// UNSUBACK (3.11) of as many codes as a packet may have entries; a DISCONNECT (3.14); and a PINGRESP (3.13).
 pub fn replies_law()
-    ensures accepted { (present : Bool) → IsSmall (accepting present None) }
-    ensures assigned { (present : Bool) (number : ℕ) → IsSmall (accepting present (Some (assigned_name number))) }
-    ensures named { (present : Bool) (name : List ℕ) → IsText name → IsShort (accepting present (Some name)) }
+    ensures accepted { (present : Bool) (overrides : Overrides) → IsSmall (accepting present None overrides) }
+    ensures assigned { (present : Bool) (number : ℕ) (overrides : Overrides) → IsSmall (accepting present (Some (assigned_name number)) overrides) }
+    ensures named { (present : Bool) (name : List ℕ) (overrides : Overrides) → IsText name → IsShort (accepting present (Some name) overrides) }
     ensures refused { (refusal : ConnectRefusal) → length (written (refusing refusal)) ≡ 5 }
     ensures acknowledged { (identifier code : ℕ) → length (written (puback identifier code)) ≤ 5 }
     ensures subscribed { (identifier : ℕ) (codes : List ℕ) → length codes ≤ most_entries →

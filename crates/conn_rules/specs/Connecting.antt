@@ -1,5 +1,5 @@
 -- What a client asks for when it connects, and the answer to the first packet (sections 3.1 and 3.2).
-use Rattle.std.specs.Prelude.{ℕ, ◌==◌, ◌&&◌, nat_lt, min, Bool, true, false, if◌then◌else◌, length, Option, Some, None, is_some}
+use Rattle.std.specs.Prelude.{ℕ, ◌==◌, ◌&&◌, ◌||◌, nat_lt, min, Bool, true, false, if◌then◌else◌, length, Option, Some, None, is_some}
 use Rattle.mqtt_packet.specs.declared.offer.Offer.{Offer}
 use Rattle.mqtt_packet.specs.declared.packet.QoS.TheVariants.{AtLeastOnce}
 use Rattle.mqtt_packet.specs.declared.packet.Connect.{Connect}
@@ -8,6 +8,8 @@ use Rattle.mqtt_packet.specs.declared.packet.Packet.{Packet}
 use Rattle.mqtt_packet.specs.declared.packet.Packet.TheVariants as packets
 use Rattle.conn_rules.specs.declared.connecting.FirstAnswer.{FirstAnswer}
 use Rattle.conn_rules.specs.declared.connecting.FirstAnswer.TheVariants.{Close, Refuse, Attach}
+use Rattle.conn_rules.specs.declared.terms.ClientLimits.{ClientLimits}
+use Rattle.conn_rules.specs.declared.terms.Overrides.{Overrides}
 use Rattle.conn_rules.specs.declared.terms.Terms.{Terms}
 
 -- a number that is there and below the limit
@@ -20,18 +22,48 @@ abbrev pub or_else : ℕ → Option ℕ → ℕ
 or_else absent None = absent
 or_else absent (Some number) = number
 
--- 3.1.2.10 and 3.1.2.11: what a client asked for; its Receive Maximum is no more than the broker's limit (profile)
-abbrev pub terms_of : ℕ → Connect → Terms
-terms_of max_inflight c = record {
-  receive_maximum = min max_inflight (or_else 65535 c.properties.receive_maximum);
-  session_expiry_interval = or_else 0 c.properties.session_expiry_interval;
-  keep_alive = c.keep_alive;
+-- the limits of a broker that limits the unacknowledged PUBLISH packets of a client, and nothing else
+abbrev pub inflight_alone : ℕ → ClientLimits
+inflight_alone max_inflight = record { max_inflight = max_inflight; max_expiry = None; max_keep_alive = None }
+
+-- the limit, where there is one and the seconds are more
+abbrev pub no_longer_than : Option ℕ → ℕ → Option ℕ
+no_longer_than None seconds = None
+no_longer_than (Some most) seconds = if nat_lt most seconds then Some most else None
+
+-- the limit of a keep alive, where there is one and the client asked for a longer one, or for none
+abbrev pub keep_alive_in_place : Option ℕ → ℕ → Option ℕ
+keep_alive_in_place None seconds = None
+keep_alive_in_place (Some most) seconds = if seconds == 0 || nat_lt most seconds then Some most else None
+
+-- everything is as the client asked
+abbrev pub no_overrides : Overrides
+no_overrides = record { session_expiry_interval = None; keep_alive = None }
+
+-- 3.2.2.3.2 and 3.2.2.3.14: what the broker uses in place of what a client asked for
+abbrev pub overrides_of : ClientLimits → Connect → Overrides
+overrides_of limits c = record {
+  session_expiry_interval = no_longer_than limits.max_expiry (or_else 0 c.properties.session_expiry_interval);
+  keep_alive = keep_alive_in_place limits.max_keep_alive c.keep_alive;
+}
+
+-- 3.1.2.10 and 3.1.2.11: what a client asked for, within the broker's limits (profile)
+abbrev pub terms_of : ClientLimits → Connect → Terms
+terms_of limits c = record {
+  receive_maximum = min limits.max_inflight (or_else 65535 c.properties.receive_maximum);
+  session_expiry_interval = or_else (or_else 0 c.properties.session_expiry_interval) (overrides_of limits c).session_expiry_interval;
+  keep_alive = or_else c.keep_alive (overrides_of limits c).keep_alive;
   maximum_packet_size = c.properties.maximum_packet_size;
+  max_expiry = limits.max_expiry;
 }
 
 -- 3.14.2.2.2: a session that ends with its connection may not be given an expiry at the end
 abbrev pub is_given_expiry : ℕ → Terms → Bool
 is_given_expiry expiry terms = nat_lt 0 expiry && terms.session_expiry_interval == 0
+
+-- 3.14.2.2.2: the expiry that a session is given at the end, within the broker's limit (profile)
+abbrev pub granted_expiry : Terms → ℕ → ℕ
+granted_expiry terms seconds = or_else seconds (no_longer_than terms.max_expiry seconds)
 
 -- 3.2.2.3: what the broker offers (profile)
 abbrev pub offer : Offer

@@ -6,12 +6,20 @@ use Rattle.mqtt_packet.specs.declared.packet.Delivery.TheVariants.{AtLeastOnce}
 use Rattle.mqtt_packet.specs.declared.packet.Packet.{Packet}
 use Rattle.mqtt_packet.specs.declared.packet.Packet.TheVariants as packets
 use Rattle.group_jobs.specs.declared.message.Message.{Message}
+use Rattle.conn_rules.specs.declared.terms.Overrides.{Overrides}
 use Rattle.conn_rules.specs.Connecting.{offer}
 use Rattle.conn_rules.specs.Expiring.{interval_left}
 
--- 3.2: the CONNACK that opens a connection, with the identifier that was assigned to a client without one
-abbrev pub accepting : Bool → Option (List ℕ) → Packet
-accepting present assigned = packets.Connack (Accepted (record { session_present = present; assigned_client_identifier = assigned; offer = offer }))
+-- 3.2: the CONNACK that opens a connection, with the identifier that was assigned to a client without one, and with what is not as the
+-- client asked
+abbrev pub accepting : Bool → Option (List ℕ) → Overrides → Packet
+accepting present assigned overrides = packets.Connack (Accepted (record {
+  session_present = present;
+  session_expiry_interval = overrides.session_expiry_interval;
+  assigned_client_identifier = assigned;
+  server_keep_alive = overrides.keep_alive;
+  offer = offer;
+}))
 
 -- 3.2.2.2: a CONNACK that refuses
 abbrev pub refusing : ConnectRefusal → Packet

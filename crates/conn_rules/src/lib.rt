@@ -31,4 +31,4 @@ pub use packets::{accepting, disconnect, job, message_of, puback, refusing, suba
 pub use publishing::{PublishAnswer, answer_to_publish, closing_code, puback_code};
 pub use setup::{QueueCapacity, Setup};
 pub use subscribing::{EntryAnswer, answer_to_entry, subscribe_refusal, unsubscribe_refusal};
-pub use terms::{MaxInflight, Terms, terms_of};
+pub use terms::{ClientLimits, MaxInflight, Overrides, Terms, overrides_of, terms_of};

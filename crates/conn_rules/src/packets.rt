@@ -5,6 +5,7 @@ ghost use Rattle.conn_rules.specs.Publishing.{message_of};
 
 use crate::connecting::offer;
 use crate::expiring::{expiry_from, interval_left};
+use crate::terms::Overrides;
 use group_jobs::Message;
 use mqtt_packet::{
     Acceptance, Connack, ConnectRefusal, Delivery, Disconnect, DisconnectProperties, NonEmpty,
@@ -13,13 +14,20 @@ use mqtt_packet::{
 };
 use std::alloc::{AllocError, Global};
 
-/// The CONNACK that opens a connection (section 3.2), with the identifier that was assigned to a client without one.
-pub fn accepting(session_present: bool, assigned_client_identifier: Option<Text>) -> Packet
-    ensures { result ≡ accepting session_present assigned_client_identifier }
+/// The CONNACK that opens a connection (section 3.2), with the identifier that was assigned to a client without one, and with what is not as the
+/// client asked.
+pub fn accepting(
+    session_present: bool,
+    assigned_client_identifier: Option<Text>,
+    overrides: Overrides,
+) -> Packet
+    ensures { result ≡ accepting session_present assigned_client_identifier overrides }
 {
     Packet::Connack(Connack::Accepted(Acceptance {
         session_present,
+        session_expiry_interval: overrides.session_expiry_interval,
         assigned_client_identifier,
+        server_keep_alive: overrides.keep_alive,
         offer: offer(),
     }))
 }

@@ -1,6 +1,6 @@
 //! What a client asks for when it connects (section 3.1.2).
 ghost use Rattle.std.specs.Prelude.{◌≡◌, ◌<◌, ◌≤◌, ◌↔◌, IfSome, IsSome};
-ghost use Rattle.conn_rules.specs.Connecting.{is_under, terms_of, is_given_expiry};
+ghost use Rattle.conn_rules.specs.Connecting.{is_under, inflight_alone, no_longer_than, keep_alive_in_place, overrides_of, terms_of, is_given_expiry, granted_expiry};
 
 use mqtt_packet::{Connect, MaximumPacketSize};
 use std::marker::Model;
@@ -51,6 +51,39 @@ impl MaxInflight {
     }
 }
 
+/// What the broker grants a client at most, whatever it asks for (profile).
+#[derive(Clone, Copy, Debug, PartialEq, Eq)]
+pub struct ClientLimits {
+    /// How many PUBLISH packets it has unacknowledged.
+    pub max_inflight: MaxInflight,
+    /// For how many seconds its session outlives its connection, if that is limited.
+    pub max_expiry: Option<u32>,
+    /// The seconds of its keep alive, if they are limited: a client that wants no keep alive is given one then.
+    pub max_keep_alive: Option<u16>,
+}
+
+impl ClientLimits {
+    /// This limit, and no other.
+    pub fn inflight_alone(max_inflight: MaxInflight) -> ClientLimits
+        ensures { result ≡ inflight_alone max_inflight }
+    {
+        ClientLimits {
+            max_inflight,
+            max_expiry: None,
+            max_keep_alive: None,
+        }
+    }
+}
+
+/// What the broker uses in place of what a client asked for, as the CONNACK tells it; `None` where it is as the client asked.
+#[derive(Clone, Copy, Debug, PartialEq, Eq)]
+pub struct Overrides {
+    /// Seconds (section 3.2.2.3.2).
+    pub session_expiry_interval: Option<u32>,
+    /// Seconds (section 3.2.2.3.14).
+    pub keep_alive: Option<u16>,
+}
+
 /// What a client asked for when it connected, as far as the broker gives it.
 #[derive(Clone, Copy, Debug, PartialEq, Eq)]
 pub struct Terms {
@@ -62,6 +95,8 @@ pub struct Terms {
     pub keep_alive: u16,
     /// The most bytes of a packet that it takes, if it named them: from 64 on (section 3.1.2.11.4).
     pub maximum_packet_size: Option<MaximumPacketSize>,
+    /// Seconds: the longest expiry that a DISCONNECT may ask for (section 3.14.2.2.2), if that is limited.
+    pub max_expiry: Option<u32>,
 }
 
 impl Terms {
@@ -72,22 +107,63 @@ impl Terms {
     {
         expiry > 0 && self.session_expiry_interval == 0
     }
+
+    /// The seconds that the session is given where a DISCONNECT asks for so many (section 3.14.2.2.2).
+    pub fn granted_expiry(&self, seconds: u32) -> u32
+        ensures { result ≡ granted_expiry self.now seconds }
+    {
+        no_longer_than(self.max_expiry, seconds).unwrap_or(seconds)
+    }
 }
 
-/// What a client asked for; what it did not speak of is as the standard has it. Its Receive Maximum is no more than the limit.
-pub fn terms_of(max_inflight: MaxInflight, connect: &Connect) -> Terms
-    ensures { result ≡ terms_of max_inflight connect.now }
+/// What the broker uses in place of what a client asked for: its limit, where that is exceeded.
+pub fn overrides_of(limits: &ClientLimits, connect: &Connect) -> Overrides
+    ensures { result ≡ overrides_of limits.now connect.now }
 {
+    let expiry = connect.properties.session_expiry_interval.unwrap_or(0);
+    Overrides {
+        session_expiry_interval: no_longer_than(limits.max_expiry, expiry),
+        keep_alive: keep_alive_in_place(limits.max_keep_alive, connect.keep_alive),
+    }
+}
+
+/// What a client asked for, within the limits; what it did not speak of is as the standard has it.
+pub fn terms_of(limits: &ClientLimits, connect: &Connect) -> Terms
+    ensures { result ≡ terms_of limits.now connect.now }
+{
+    let overrides = overrides_of(limits, connect);
     let properties = &connect.properties;
-    let asked = match properties.receive_maximum {
+    let receive_maximum = match properties.receive_maximum {
         Some(maximum) => maximum.get(),
         None => u16::MAX,
     };
+    let expiry = properties.session_expiry_interval.unwrap_or(0);
     Terms {
-        receive_maximum: max_inflight.get().min(asked),
-        session_expiry_interval: properties.session_expiry_interval.unwrap_or(0),
-        keep_alive: connect.keep_alive,
+        receive_maximum: limits.max_inflight.get().min(receive_maximum),
+        session_expiry_interval: overrides.session_expiry_interval.unwrap_or(expiry),
+        keep_alive: overrides.keep_alive.unwrap_or(connect.keep_alive),
         maximum_packet_size: properties.maximum_packet_size,
+        max_expiry: limits.max_expiry,
+    }
+}
+
+/// The limit, where there is one and the seconds are more.
+fn no_longer_than(limit: Option<u32>, seconds: u32) -> Option<u32>
+    ensures { result ≡ no_longer_than limit seconds }
+{
+    match limit {
+        Some(most) if most < seconds => Some(most),
+        _ => None,
+    }
+}
+
+/// The limit of a keep alive, where there is one and the client asked for a longer one, or for none.
+fn keep_alive_in_place(limit: Option<u16>, seconds: u16) -> Option<u16>
+    ensures { result ≡ keep_alive_in_place limit seconds }
+{
+    match limit {
+        Some(most) if seconds == 0 || most < seconds => Some(most),
+        _ => None,
     }
 }
 

@@ -9,6 +9,7 @@ use Rattle.member_window.specs.Contents.{Contents, IsSound}
 use Rattle.member_window.specs.Marks.{Mark}
 use Rattle.member_window.specs.Transcript.{IsLegalFrom}
 use Rattle.member_window.specs.Runs.{window_state}
+use Rattle.conn_rules.specs.declared.terms.ClientLimits.{ClientLimits}
 use Rattle.conn_supply.specs.SupplyCalls.{SupplyCall}
 use Rattle.conn_engine.specs.declared.input.Input.TheVariants as inputs
 use Rattle.conn_engine.specs.declared.phase.Opening.{Opening}
@@ -151,22 +152,22 @@ module _ {S P T : Type 0} (call : S → SupplyCall P → S → Type 0) (begins e
       all_whose acts does.0 new does.1 supply' does.3 ∙ turn_whose call slot_of act old does.0 supply does.1 (its_turn act old does.0 supply does.1 does.2)
 
   -- the terms of a connection are those of a CONNECT that came
-  terms_till : (max_inflight : ℕ) (Came : Connect → Type 0) (acts : List Act) (old new : ServiceState P T) (supply supply' : S) → ((connect : Connect) → Comes connect acts → Came connect)
-      → TermsAt call slot_of max_inflight Came old.client.conn.phase → Leading acts old supply new supply' → TermsAt call slot_of max_inflight Came new.client.conn.phase
-  terms_till max_inflight Came [] old new supply supply' came kept does =
-      subst (λ (s : ServiceState P T). TermsAt call slot_of max_inflight Came s.client.conn.phase) (sym does.0) kept
-  terms_till max_inflight Came (act ∷ acts) old new supply supply' came kept does =
-      terms_till max_inflight Came acts does.0 new does.1 supply' (λ connect comes. came connect (inr comes))
-      (turn_terms call slot_of max_inflight Came act old does.0 supply does.1 (λ connect is. came connect (inl is)) kept (its_turn act old does.0 supply does.1 does.2)) does.3
+  terms_till : (limits : ClientLimits) (Came : Connect → Type 0) (acts : List Act) (old new : ServiceState P T) (supply supply' : S) → ((connect : Connect) → Comes connect acts → Came connect)
+      → TermsAt call slot_of limits Came old.client.conn.phase → Leading acts old supply new supply' → TermsAt call slot_of limits Came new.client.conn.phase
+  terms_till limits Came [] old new supply supply' came kept does =
+      subst (λ (s : ServiceState P T). TermsAt call slot_of limits Came s.client.conn.phase) (sym does.0) kept
+  terms_till limits Came (act ∷ acts) old new supply supply' came kept does =
+      terms_till limits Came acts does.0 new does.1 supply' (λ connect comes. came connect (inr comes))
+      (turn_terms call slot_of limits Came act old does.0 supply does.1 (λ connect is. came connect (inl is)) kept (its_turn act old does.0 supply does.1 does.2)) does.3
 
   terms_in : (opening : Opening) {acts : List Act} (old : ServiceState P T) (supply : S) {new : ServiceState P T} {supply' : S} (life : GivesIn acts old supply new supply')
-      → old.client.conn.phase ≡ Unconnected opening → AreAsked opening.max_inflight (λ connect. Comes connect (life.earlier ++ life.act ∷ [])) life.gives.connected.terms
+      → old.client.conn.phase ≡ Unconnected opening → AreAsked opening.limits (λ connect. Comes connect (life.earlier ++ life.act ∷ [])) life.gives.connected.terms
   terms_in opening old supply life is =
       let Came = (λ (connect : Connect). Comes connect (life.earlier ++ life.act ∷ [])) in
-      let till = terms_till opening.max_inflight Came life.earlier old life.before supply life.supply_before (λ connect comes. comes_earlier connect life.earlier (life.act ∷ []) comes)
-      (subst (λ (phase : ConnPhase P). TermsAt call slot_of opening.max_inflight Came phase) (sym is) refl) life.till_then in
-      terms_given call slot_of opening.max_inflight Came life.after.client.conn.phase life.gives.connected life.gives.has
-      (turn_terms call slot_of opening.max_inflight Came life.act life.before life.after life.supply_before life.supply_after (λ connect is. comes_last connect life.earlier life.act is) till
+      let till = terms_till opening.limits Came life.earlier old life.before supply life.supply_before (λ connect comes. comes_earlier connect life.earlier (life.act ∷ []) comes)
+      (subst (λ (phase : ConnPhase P). TermsAt call slot_of opening.limits Came phase) (sym is) refl) life.till_then in
+      terms_given call slot_of opening.limits Came life.after.client.conn.phase life.gives.connected life.gives.has
+      (turn_terms call slot_of opening.limits Came life.act life.before life.after life.supply_before life.supply_after (λ connect is. comes_last connect life.earlier life.act is) till
       (its_turn life.act life.before life.after life.supply_before life.supply_after life.does))
 
   -- the acts of a connection that has its session, or has ended
@@ -214,7 +215,7 @@ module _ {S P T : Type 0} (call : S → SupplyCall P → S → Type 0) (begins e
       }
 
   pub lives : (opening : Opening) (acts : List Act) (old new : ServiceState P T) (supply supply' : S) → old.client.conn.phase ≡ Unconnected opening → Leading acts old supply new supply'
-      → IsLegalLife call begins ends visiting slot_of counts given accepted opening.max_inflight acts old supply new supply'
+      → IsLegalLife call begins ends visiting slot_of counts given accepted opening.limits acts old supply new supply'
   lives opening acts old new supply supply' is does =
       let none : connected_of old.client.conn.phase ≡ None = ap connected_of is in
       record {

@@ -14,6 +14,7 @@ use Rattle.member_window.specs.Marks.{Mark}
 use Rattle.member_window.specs.Transcript.{IsLegalFrom}
 use Rattle.member_window.specs.Runs.{window_state}
 use Rattle.conn_rules.specs.Connecting.{terms_of}
+use Rattle.conn_rules.specs.declared.terms.ClientLimits.{ClientLimits}
 use Rattle.conn_rules.specs.declared.terms.Terms.{Terms}
 use Rattle.conn_supply.specs.declared.reply.Then.{Then}
 use Rattle.conn_supply.specs.SupplyCalls.{SupplyCall}
@@ -53,25 +54,25 @@ same_conn got.Idle client bytes = refl
 same_conn got.End client bytes = refl
 same_conn got.Failed client bytes = refl
 
--- the terms of a connection that was opened with this limit are those of a CONNECT that came
-abbrev pub IsOpen : ℕ → Opening → Type 0
-IsOpen max_inflight opened = opened.max_inflight ≡ max_inflight
+-- the terms of a connection that was opened with these limits are those of a CONNECT that came
+abbrev pub IsOpen : ClientLimits → Opening → Type 0
+IsOpen limits opened = opened.limits ≡ limits
 
-abbrev pub AreAsked : ℕ → (Connect → Type 0) → Terms → Type 0
-AreAsked max_inflight Came terms = (connect : Connect) × Came connect × (terms ≡ terms_of max_inflight connect)
+abbrev pub AreAsked : ClientLimits → (Connect → Type 0) → Terms → Type 0
+AreAsked limits Came terms = (connect : Connect) × Came connect × (terms ≡ terms_of limits connect)
 
 module _ {S P : Type 0} (call : S → SupplyCall P → S → Type 0) (slot_of : P → ℕ) where
-  abbrev pub TermsAt : ℕ → (Connect → Type 0) → ConnPhase P → Type 0
-  TermsAt max_inflight Came phase = asked.Within call slot_of (IsOpen max_inflight) (AreAsked max_inflight Came) phase
+  abbrev pub TermsAt : ClientLimits → (Connect → Type 0) → ConnPhase P → Type 0
+  TermsAt limits Came phase = asked.Within call slot_of (IsOpen limits) (AreAsked limits Came) phase
 
-  pub terms_given : (max_inflight : ℕ) (Came : Connect → Type 0) (phase : ConnPhase P) (connected : ConnectedClient P) → connected_of phase ≡ Some connected
-      → TermsAt max_inflight Came phase → AreAsked max_inflight Came connected.terms
-  terms_given max_inflight Came (Unconnected opened) connected has terms = absurd (let n = has in cc)
-  terms_given max_inflight Came (Waiting request ticks) connected has terms = absurd (let n = has in cc)
-  terms_given max_inflight Came (Connected its) connected has terms =
+  pub terms_given : (limits : ClientLimits) (Came : Connect → Type 0) (phase : ConnPhase P) (connected : ConnectedClient P) → connected_of phase ≡ Some connected
+      → TermsAt limits Came phase → AreAsked limits Came connected.terms
+  terms_given limits Came (Unconnected opened) connected has terms = absurd (let n = has in cc)
+  terms_given limits Came (Waiting request ticks) connected has terms = absurd (let n = has in cc)
+  terms_given limits Came (Connected its) connected has terms =
       let same : its ≡ connected = (let h = has in cc) in
-      subst (λ (c : ConnectedClient P). AreAsked max_inflight Came c.terms) same terms
-  terms_given max_inflight Came Ended connected has terms = absurd (let n = has in cc)
+      subst (λ (c : ConnectedClient P). AreAsked limits Came c.terms) same terms
+  terms_given limits Came Ended connected has terms = absurd (let n = has in cc)
 
   -- who has its session has it, or its connection has ended
   step_keeps : (number moment : ℕ) (phase phase' : ConnPhase P) (input : Input) (packets : List Packet) (next : Then) (supply supply' : S) → phase ≢ Ended → KeepsOrEnds phase
@@ -150,15 +151,15 @@ module _ {S P T : Type 0} (call : S → SupplyCall P → S → Type 0) (slot_of 
   turn_keeps act old new supply supply' keeps (inr (inr steps)) =
       step_keeps call slot_of old.client.conn.number steps.moment old.client.conn.phase new.client.conn.phase steps.input steps.packets steps.next supply supply' steps.not_over keeps steps.stepped
 
-  pub turn_terms : (max_inflight : ℕ) (Came : Connect → Type 0) (act : Act) (old new : ServiceState P T) (supply supply' : S)
-      → ((connect : Connect) → input_in act ≡ inputs.Packet (packets.Connect connect) ∷ [] → Came connect) → TermsAt call slot_of max_inflight Came old.client.conn.phase
-      → Turn act old supply new supply' → TermsAt call slot_of max_inflight Came new.client.conn.phase
-  turn_terms max_inflight Came act old new supply supply' comes kept (inl leaves) = subst (λ (phase : ConnPhase P). TermsAt call slot_of max_inflight Came phase) (sym leaves.same) kept
-  turn_terms max_inflight Came act old new supply supply' comes kept (inr (inl fails)) = subst (λ (phase : ConnPhase P). TermsAt call slot_of max_inflight Came phase) (sym fails.over) tt
-  turn_terms max_inflight Came act old new supply supply' comes kept (inr (inr steps)) =
-      asked.within call slot_of (IsOpen max_inflight) (AreAsked max_inflight Came) old.client.conn.number steps.moment old.client.conn.phase new.client.conn.phase steps.input steps.packets steps.next
+  pub turn_terms : (limits : ClientLimits) (Came : Connect → Type 0) (act : Act) (old new : ServiceState P T) (supply supply' : S)
+      → ((connect : Connect) → input_in act ≡ inputs.Packet (packets.Connect connect) ∷ [] → Came connect) → TermsAt call slot_of limits Came old.client.conn.phase
+      → Turn act old supply new supply' → TermsAt call slot_of limits Came new.client.conn.phase
+  turn_terms limits Came act old new supply supply' comes kept (inl leaves) = subst (λ (phase : ConnPhase P). TermsAt call slot_of limits Came phase) (sym leaves.same) kept
+  turn_terms limits Came act old new supply supply' comes kept (inr (inl fails)) = subst (λ (phase : ConnPhase P). TermsAt call slot_of limits Came phase) (sym fails.over) tt
+  turn_terms limits Came act old new supply supply' comes kept (inr (inr steps)) =
+      asked.within call slot_of (IsOpen limits) (AreAsked limits Came) old.client.conn.number steps.moment old.client.conn.phase new.client.conn.phase steps.input steps.packets steps.next
       supply supply' steps.stepped
-      (λ opened connect may before is. (connect, comes connect (steps.came ∙ ap (λ (i : Input). i ∷ []) is), ap (λ (n : ℕ). terms_of n connect) may)) kept
+      (λ opened connect may before is. (connect, comes connect (steps.came ∙ ap (λ (i : Input). i ∷ []) is), ap (λ (l : ClientLimits). terms_of l connect) may)) kept
 
   -- the number of a connection stays
   pub turn_whose : (act : Act) (old new : ServiceState P T) (supply supply' : S) → Turn act old supply new supply' → new.client.conn.number ≡ old.client.conn.number

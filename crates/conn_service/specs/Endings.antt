@@ -1,6 +1,7 @@
 -- A connection that is served to its end.
 use Rattle.std.specs.Prelude.{◌≡◌, ◌⊎◌, ℕ, Bool, List, Option, Some}
 use Rattle.transport.specs.declared.counts.Counts.{Counts}
+use Rattle.conn_rules.specs.declared.terms.ClientLimits.{ClientLimits}
 use Rattle.conn_supply.specs.SupplyCalls.{SupplyCall}
 use Rattle.conn_engine.specs.declared.phase.ConnPhase.TheVariants.{Ended}
 use Rattle.conn_service.specs.declared.served.Served.{Served}
@@ -19,8 +20,8 @@ module _ {S P T : Type 0} (call : S → SupplyCall P → S → Type 0) (begins e
     pub over : last.client.conn.phase ≡ Ended
     pub left : transport ≡ last.transport
 
-  -- so it was from its opening, at some moment, with this limit; or there was no memory to open it, and nothing was asked of its transport
-  abbrev pub IsServedToItsEnd : ℕ → ℕ → T → S → Served → T → S → Type 0
-  IsServedToItsEnd number max_inflight transport supply how transport' supply' =
-      ((now : ℕ) × EndsAs (opened number (record { at = now; max_inflight = max_inflight }) transport) supply how transport' supply')
+  -- so it was from its opening, at some moment, with these limits; or there was no memory to open it, and nothing was asked of its transport
+  abbrev pub IsServedToItsEnd : ℕ → ClientLimits → T → S → Served → T → S → Type 0
+  IsServedToItsEnd number limits transport supply how transport' supply' =
+      ((now : ℕ) × EndsAs (opened number (record { at = now; limits = limits }) transport) supply how transport' supply')
       ⊎ ((how ≡ served.Memory) × (transport' ≡ transport) × (supply' ≡ supply))

@@ -11,6 +11,7 @@ use Rattle.member_window.specs.Transcript.{IsLegalFrom}
 use Rattle.member_window.specs.Runs.{window_state}
 use Rattle.session_desk.specs.declared.session.Session.{Session}
 use Rattle.conn_rules.specs.Connecting.{terms_of}
+use Rattle.conn_rules.specs.declared.terms.ClientLimits.{ClientLimits}
 use Rattle.conn_supply.specs.declared.reply.Then.{Then}
 use Rattle.conn_supply.specs.SupplyCalls.{SupplyCall}
 use Rattle.conn_engine.specs.declared.input.Input.TheVariants as inputs
@@ -127,13 +128,13 @@ module _ {S P T : Type 0} (call : S → SupplyCall P → S → Type 0) (begins e
   NoneGives [] old supply new supply' does = ⊤
   NoneGives (act ∷ acts) old supply new supply' does = (¬ Gives call act old supply does.0 does.1) × NoneGives acts does.0 does.1 new supply' does.3
 
-  -- this session was asked for under the connection's number; the connection has the terms of a CONNECT that came by then, under this limit; no PUBLISH is sent before
+  -- this session was asked for under the connection's number; the connection has the terms of a CONNECT that came by then, under these limits; no PUBLISH is sent before
   -- the session is given; and no later act gives the connection another
-  pub record IsGivenOnce (max_inflight : ℕ) {acts : List Act} {old new : ServiceState P T} {supply supply' : S} (life : GivesSession acts old supply new supply') : Type 0 where
+  pub record IsGivenOnce (limits : ClientLimits) {acts : List Act} {old new : ServiceState P T} {supply supply' : S} (life : GivesSession acts old supply new supply') : Type 0 where
     pub whose : life.gives.begun.asks.request.connection ≡ old.client.conn.number
     pub connect : Connect
     pub comes : Comes connect (life.earlier ++ life.act ∷ [])
-    pub terms_are : life.gives.connected.terms ≡ terms_of max_inflight connect
+    pub terms_are : life.gives.connected.terms ≡ terms_of limits connect
     pub none_before : publishes_in (packets_sent life.earlier) ≡ []
     pub no_other : NoneGives life.later life.after life.supply_after new supply' life.from_then
 
@@ -145,9 +146,9 @@ module _ {S P T : Type 0} (call : S → SupplyCall P → S → Type 0) (begins e
     pub no_other_up : AllByRecursion IsNotUp (flat_map (λ marks. marks) added)
     pub legal : IsLegalFrom (window_state (session_of life).window) (life.gives.marks ++ flat_map (λ marks. marks) added)
 
-  -- no PUBLISH is sent in the life of a connection that was opened with this limit, or it is given a session in it; that is given once; and what is sent is legal from
+  -- no PUBLISH is sent in the life of a connection that was opened with these limits, or it is given a session in it; that is given once; and what is sent is legal from
   -- what it held, where its window is sound, as every `Window` of a program is, and not ending
-  pub record IsLegalLife (max_inflight : ℕ) (acts : List Act) (old : ServiceState P T) (supply : S) (new : ServiceState P T) (supply' : S) : Type 0 where
+  pub record IsLegalLife (limits : ClientLimits) (acts : List Act) (old : ServiceState P T) (supply : S) (new : ServiceState P T) (supply' : S) : Type 0 where
     pub of_session : (publishes_in (packets_sent acts) ≡ []) ⊎ GivesSession acts old supply new supply'
-    pub is_once : (life : GivesSession acts old supply new supply') → IsGivenOnce max_inflight life
+    pub is_once : (life : GivesSession acts old supply new supply') → IsGivenOnce limits life
     pub is_legal : (life : GivesSession acts old supply new supply') → IsSound (session_of life).window → (session_of life).window.retired ≡ false → SendsLegally life

@@ -46,7 +46,7 @@ pub fn ending_law<P: HoldingPlace, T: Transport, S: Supply<P>>()
 {}
 
 /// **The quota is kept** (section 4.9) in every life, with memory and without: of the PUBLISH packets that were sent on a connection, those that
-/// wait for their PUBACK are never more than the Receive Maximum that its terms have, and never more than 256. And these terms are never more than the
+/// wait for their PUBACK are never more than the Receive Maximum that its terms have, and never more than 256. And this Receive Maximum is never more than the
 /// limit that it was opened with (`limited`, profile).
 pub fn quota_law<P: HoldingPlace, T: Transport, S: Supply<P>>()
     ensures kept { (number : ℕ) (opening : Opening) (first : T) (acts : List Act) (service : ServiceState P T) (supply supply' : S) →
@@ -54,7 +54,7 @@ pub fn quota_law<P: HoldingPlace, T: Transport, S: Supply<P>>()
         IsWithinQuota service.client.conn.phase }
     ensures limited { (number : ℕ) (opening : Opening) (first : T) (acts : List Act) (service : ServiceState P T) (supply supply' : S) →
         DoesAll S.call S.begins S.ends S.visiting P.slot_of T.counts T.given T.accepted acts (opened number opening first) supply service supply' →
-        IsWithinLimit opening.max_inflight service.client.conn.phase }
+        IsWithinLimit opening.limits.max_inflight service.client.conn.phase }
 {}
 
 /// **Each step of a life keeps its session** (sections 4.4, 4.8.2 and 4.9), as each step of a connection does: its PUBLISH packets are those of the marks
@@ -69,7 +69,7 @@ pub fn session_law<P: HoldingPlace, T: Transport, S: Supply<P>>()
 
 /// **The PUBLISH packets of a life are those of a legal transcript** (sections 4.4 and 4.9). Either no PUBLISH is sent in a life, or the connection is given a
 /// session in it: by one of its acts, in whose step the supply hands the session out. For every session that is given in the life so: it was asked for
-/// under the connection's number; the connection has the terms of a CONNECT that came by then, its Receive Maximum cut to the limit that the connection was
+/// under the connection's number; the connection has the terms of a CONNECT that came by then, cut to the limits that the connection was
 /// opened with; no PUBLISH is sent before that act, and no later act gives another. And unless its window is ending, from that act on each act adds its own marks to the transcript of the session, as [`session_law`] has them of each step, and all of them are legal from what the window of
 /// the session held when it was given: each message that is sent for the first time goes out with DUP 0 under the least identifier that is free, after all that
 /// is sent again; what is sent again has its own identifier, in the order of first sending; only what is held is acknowledged; and no more is
@@ -80,5 +80,5 @@ pub fn session_law<P: HoldingPlace, T: Transport, S: Supply<P>>()
 pub fn transcript_law<P: HoldingPlace, T: Transport, S: Supply<P>>()
     ensures { (number : ℕ) (opening : Opening) (first : T) (acts : List Act) (service : ServiceState P T) (supply supply' : S) →
         DoesAll S.call S.begins S.ends S.visiting P.slot_of T.counts T.given T.accepted acts (opened number opening first) supply service supply' →
-        IsLegalLife S.call S.begins S.ends S.visiting P.slot_of T.counts T.given T.accepted opening.max_inflight acts (opened number opening first) supply service supply' }
+        IsLegalLife S.call S.begins S.ends S.visiting P.slot_of T.counts T.given T.accepted opening.limits acts (opened number opening first) supply service supply' }
 {}

@@ -5,7 +5,7 @@
 //! [`serve`] is a loop of such rounds, for a transport whose calls wait.
 //!
 //! ```
-//! let opening = Opening { at: clock.now(), max_inflight };
+//! let opening = Opening { at: clock.now(), limits };
 //! let mut service = Service::open(alloc, number, opening, transport)?;
 //! match service.round(&mut supply, &crossing, worker, clock.now(), &mut buffer, Direction::Both) {
 //!     Round::Reading => {} // nothing more came yet: go on once something can be read, and after 50 milliseconds at most

@@ -8,7 +8,7 @@ ghost use Rattle.conn_service.specs.Endings.{EndsAs, IsServedToItsEnd};
 use crate::served::{Direction, Round, Served};
 use crate::service::Service;
 use conn_engine::Opening;
-use conn_rules::MaxInflight;
+use conn_rules::ClientLimits;
 use conn_supply::{HoldingPlace, Supply};
 use std::alloc::Global;
 use std::sync::Wait;
@@ -17,7 +17,7 @@ use transport::{Clock, Crossing, Transport};
 /// How many bytes a read gives at most.
 const READ_SIZE: usize = 4_096;
 
-/// Serves one connection of this number, below 1,024, with this limit, from its opening to its end, and hands its transport back: rounds, one after the other, at the
+/// Serves one connection of this number, below 1,024, with these limits, from its opening to its end, and hands its transport back: rounds, one after the other, at the
 /// moments that the clock tells. A call of the transport that gives nothing is to have waited for a while; after a round that ends with 600 writes
 /// in a row that gave nothing, or with more, the connection is given up.
 ///
@@ -26,7 +26,7 @@ pub fn serve<P: HoldingPlace, T: Transport, S: Supply<P>, X: Crossing, C: Clock,
     rt: &R,
     alloc: Global,
     number: u16,
-    max_inflight: MaxInflight,
+    limits: ClientLimits,
     transport: T,
     supply: &mut S,
     crossing: &X,
@@ -35,12 +35,12 @@ pub fn serve<P: HoldingPlace, T: Transport, S: Supply<P>, X: Crossing, C: Clock,
 ) -> (Served, T)
     requires number { number < 1024 }
     requires new { T.counts transport ≡ no_counts }
-    ensures served { IsServedToItsEnd S.call S.begins S.ends S.visiting P.slot_of T.counts T.given T.accepted number max_inflight transport supply.old result.0 result.1 supply.new }
+    ensures served { IsServedToItsEnd S.call S.begins S.ends S.visiting P.slot_of T.counts T.given T.accepted number limits transport supply.old result.0 result.1 supply.new }
     ensures crossing { result.0 ≡ endings.NoCrossing → RefusesAlways X.refuses crossing.now worker }
 {
     let opening = Opening {
         at: clock.now(),
-        max_inflight,
+        limits,
     };
     let service = match Service::open(alloc, number, opening, transport) {
         Ok(service) => service,

@@ -30,6 +30,7 @@ use Rattle.conn_rules.specs.declared.connecting.FirstAnswer.TheVariants as first
 use Rattle.conn_rules.specs.declared.hand_outs.HandOutTerms.{HandOutTerms}
 use Rattle.conn_rules.specs.declared.publishing.PublishAnswer.{PublishAnswer}
 use Rattle.conn_rules.specs.declared.publishing.PublishAnswer.TheVariants as answers
+use Rattle.conn_rules.specs.declared.terms.ClientLimits.{ClientLimits}
 use Rattle.conn_rules.specs.Connecting.{first_answer}
 use Rattle.conn_rules.specs.Publishing.{closing_code, identified_answer, delivery_answer, publish_answer, puback_code, message_of}
 use Rattle.conn_supply.specs.declared.reply.Reply.{Reply}
@@ -437,38 +438,38 @@ other_reply phase input old new number now between reply other does =
       λ publish identifier came delivery. absurd (other publish came),
     )
 
-first_none : (answer : FirstAnswer) (old new : Broker) (number max_inflight now : ℕ) (packet : Packet) (phase : ConnPhase GroupPlace) (reply : Reply)
-    → AnswersFirst Calls slot_of answer old number max_inflight now packet phase reply new → (slot : ℕ) → AcceptsNone old new slot
-first_none first.Close old new number max_inflight now packet phase reply does = same_groups old new (ap (λ (b : Broker). b.groups) does.1)
-first_none (first.Refuse refused) old new number max_inflight now packet phase reply does = same_groups old new (ap (λ (b : Broker). b.groups) does.1)
-first_none first.Attach old new number max_inflight now packet phase reply does =
+first_none : (answer : FirstAnswer) (old new : Broker) (number : ℕ) (limits : ClientLimits) (now : ℕ) (packet : Packet) (phase : ConnPhase GroupPlace) (reply : Reply)
+    → AnswersFirst Calls slot_of answer old number limits now packet phase reply new → (slot : ℕ) → AcceptsNone old new slot
+first_none first.Close old new number limits now packet phase reply does = same_groups old new (ap (λ (b : Broker). b.groups) does.1)
+first_none (first.Refuse refused) old new number limits now packet phase reply does = same_groups old new (ap (λ (b : Broker). b.groups) does.1)
+first_none first.Attach old new number limits now packet phase reply does =
     let calls = attached Calls old new number now _ 0 phase reply does.2 in all_called calls.supply_calls old new calls.offers calls.made
 
 -- a PUBLISH before any CONNECT
-stops_first : (packet : Packet) (old new : Broker) (number max_inflight now : ℕ) (phase : ConnPhase GroupPlace) (reply : Reply)
-    → AnswersFirst Calls slot_of (first_answer packet) old number max_inflight now packet phase reply new → StopsAtPublish (inputs.Packet packet) reply
-stops_first (packets.Publish its) old new number max_inflight now phase reply does = stops (inputs.Packet (packets.Publish its)) reply _ does.0.told (λ go. cc)
-stops_first (packets.Connect packet) old new number max_inflight now phase reply does = λ publish identifier came delivery go. cc
-stops_first (packets.Connack packet) old new number max_inflight now phase reply does = λ publish identifier came delivery go. cc
-stops_first (packets.Puback packet) old new number max_inflight now phase reply does = λ publish identifier came delivery go. cc
-stops_first (packets.Subscribe packet) old new number max_inflight now phase reply does = λ publish identifier came delivery go. cc
-stops_first (packets.Suback packet) old new number max_inflight now phase reply does = λ publish identifier came delivery go. cc
-stops_first (packets.Unsubscribe packet) old new number max_inflight now phase reply does = λ publish identifier came delivery go. cc
-stops_first (packets.Unsuback packet) old new number max_inflight now phase reply does = λ publish identifier came delivery go. cc
-stops_first packets.Pingreq old new number max_inflight now phase reply does = λ publish identifier came delivery go. cc
-stops_first packets.Pingresp old new number max_inflight now phase reply does = λ publish identifier came delivery go. cc
-stops_first (packets.Disconnect packet) old new number max_inflight now phase reply does = λ publish identifier came delivery go. cc
-stops_first (packets.Foreign kind) old new number max_inflight now phase reply does = λ publish identifier came delivery go. cc
-stops_first (packets.OtherVersion version) old new number max_inflight now phase reply does = λ publish identifier came delivery go. cc
-stops_first packets.WithWill old new number max_inflight now phase reply does = λ publish identifier came delivery go. cc
+stops_first : (packet : Packet) (old new : Broker) (number : ℕ) (limits : ClientLimits) (now : ℕ) (phase : ConnPhase GroupPlace) (reply : Reply)
+    → AnswersFirst Calls slot_of (first_answer packet) old number limits now packet phase reply new → StopsAtPublish (inputs.Packet packet) reply
+stops_first (packets.Publish its) old new number limits now phase reply does = stops (inputs.Packet (packets.Publish its)) reply _ does.0.told (λ go. cc)
+stops_first (packets.Connect packet) old new number limits now phase reply does = λ publish identifier came delivery go. cc
+stops_first (packets.Connack packet) old new number limits now phase reply does = λ publish identifier came delivery go. cc
+stops_first (packets.Puback packet) old new number limits now phase reply does = λ publish identifier came delivery go. cc
+stops_first (packets.Subscribe packet) old new number limits now phase reply does = λ publish identifier came delivery go. cc
+stops_first (packets.Suback packet) old new number limits now phase reply does = λ publish identifier came delivery go. cc
+stops_first (packets.Unsubscribe packet) old new number limits now phase reply does = λ publish identifier came delivery go. cc
+stops_first (packets.Unsuback packet) old new number limits now phase reply does = λ publish identifier came delivery go. cc
+stops_first packets.Pingreq old new number limits now phase reply does = λ publish identifier came delivery go. cc
+stops_first packets.Pingresp old new number limits now phase reply does = λ publish identifier came delivery go. cc
+stops_first (packets.Disconnect packet) old new number limits now phase reply does = λ publish identifier came delivery go. cc
+stops_first (packets.Foreign kind) old new number limits now phase reply does = λ publish identifier came delivery go. cc
+stops_first (packets.OtherVersion version) old new number limits now phase reply does = λ publish identifier came delivery go. cc
+stops_first packets.WithWill old new number limits now phase reply does = λ publish identifier came delivery go. cc
 
 reacted : (phase : ConnPhase GroupPlace) (input : Input) (old new : Broker) (number now : ℕ) (between : ConnPhase GroupPlace) (reply : Reply)
     → Reacts Calls slot_of old number phase now input between reply new → Acked old number input reply new ⊎ NotAcked old input reply new
 reacted (Unconnected opened) (inputs.Packet packet) old new number now between reply does =
     inr (
-      answers_first Calls slot_of (first_answer packet) old new number opened.max_inflight now packet between reply does,
-      first_none (first_answer packet) old new number opened.max_inflight now packet between reply does,
-      stops_first packet old new number opened.max_inflight now between reply does,
+      answers_first Calls slot_of (first_answer packet) old new number opened.limits now packet between reply does,
+      first_none (first_answer packet) old new number opened.limits now packet between reply does,
+      stops_first packet old new number opened.limits now between reply does,
     )
 reacted (Waiting request ticks) (inputs.Packet packet) old new number now between reply does = absurd does
 reacted Ended (inputs.Packet packet) old new number now between reply does =

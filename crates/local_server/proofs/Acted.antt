@@ -9,6 +9,7 @@ use Rattle.member_window.specs.Contents.{held_of}
 use Rattle.session_desk.specs.Rows.{Rows}
 use Rattle.conn_rules.specs.declared.connecting.FirstAnswer.{FirstAnswer}
 use Rattle.conn_rules.specs.declared.connecting.FirstAnswer.TheVariants as first
+use Rattle.conn_rules.specs.declared.terms.ClientLimits.{ClientLimits}
 use Rattle.conn_rules.specs.Connecting.{first_answer}
 use Rattle.conn_rules.specs.Faults.{fault_refusal}
 use Rattle.conn_supply.specs.declared.reply.Then.{Then}
@@ -152,11 +153,11 @@ module _ (ledger : Ledger) (number : ℕ) where
       (enter connected new done.owns, done.adds)
 
 -- a connection that has no session
-first_answered : (answer : FirstAnswer) (ledger : Ledger) (old new : Broker) (number max_inflight now : ℕ) (packet : Packet) (phase : ConnPhase GroupPlace) (reply : Reply)
-    → AnswersFirst Calls slot_of answer old number max_inflight now packet phase reply new → Owns ledger old → Quiet ledger old (connected_of phase) new
-first_answered first.Close ledger old new number max_inflight now packet phase reply does was = stays_over ledger old new phase does.0.over does.1 was
-first_answered (first.Refuse refusal) ledger old new number max_inflight now packet phase reply does was = stays_over ledger old new phase does.0.over does.1 was
-first_answered first.Attach ledger old new number max_inflight now packet phase reply does was = attaches ledger old new number now _ 0 phase reply does.2 was
+first_answered : (answer : FirstAnswer) (ledger : Ledger) (old new : Broker) (number : ℕ) (limits : ClientLimits) (now : ℕ) (packet : Packet) (phase : ConnPhase GroupPlace) (reply : Reply)
+    → AnswersFirst Calls slot_of answer old number limits now packet phase reply new → Owns ledger old → Quiet ledger old (connected_of phase) new
+first_answered first.Close ledger old new number limits now packet phase reply does was = stays_over ledger old new phase does.0.over does.1 was
+first_answered (first.Refuse refusal) ledger old new number limits now packet phase reply does was = stays_over ledger old new phase does.0.over does.1 was
+first_answered first.Attach ledger old new number limits now packet phase reply does was = attaches ledger old new number now _ 0 phase reply does.2 was
 
 refused_if : (refusal : Option ConnectRefusal) (phase : ConnPhase GroupPlace) (reply : Reply) → IsRefusedIf refusal phase reply → phase ≡ Ended
 refused_if None phase reply is = is.over
@@ -231,7 +232,7 @@ reacted : (phase : ConnPhase GroupPlace) (input : Input) (ledger : Ledger) (numb
     → Reacts Calls slot_of old number phase now input phase' reply new → HoldsAs (with_hand ledger number None) old (connected_of phase)
     → Done (with_hand ledger number None) old number now (connected_of phase) input (connected_of phase') new
 reacted (Unconnected opened) (inputs.Packet packet) ledger number old new now phase' reply does was =
-    quietly _ old new number now None (connected_of phase') (inputs.Packet packet) tt (first_answered (first_answer packet) _ old new number opened.max_inflight now packet phase' reply does was)
+    quietly _ old new number now None (connected_of phase') (inputs.Packet packet) tt (first_answered (first_answer packet) _ old new number opened.limits now packet phase' reply does was)
 reacted (Unconnected opened) (inputs.Fault fault) ledger number old new now phase' reply does was =
     quietly _ old new number now None (connected_of phase') (inputs.Fault fault) tt (stays_over _ old new phase' (refused_if (fault_refusal fault) phase' reply does.0) does.1 was)
 reacted (Unconnected opened) inputs.Tick ledger number old new now phase' reply does was =

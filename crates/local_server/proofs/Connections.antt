@@ -20,6 +20,7 @@ use Rattle.local_broker.specs.Calls.{Calls}
 use Rattle.local_server.specs.declared.event.ServerEvent.{ServerEvent}
 use Rattle.local_server.specs.declared.event.ServerEvent.TheVariants as events
 use Rattle.local_server.specs.declared.event.TimedEvent.{TimedEvent}
+use Rattle.conn_rules.specs.Connecting.{inflight_alone}
 use Rattle.conn_rules.specs.declared.setup.Setup.{Setup}
 use Rattle.local_server.specs.Servers.{Clients, ServerState, IsNewServer}
 use Rattle.local_server.specs.Happening.{slot_of, EndsFirst, Does, DoesIf, Happens, HappensAll}
@@ -207,7 +208,7 @@ no_steps events.Close number old new steps opened answer = absurd (false≢true 
 keeps : (event : ServerEvent) (old new : ServerState) (steps : List TakenStep) → AllByRecursion IsLawfulStep steps → AreUp old.clients → AreUp new.clients → AreTakenIn event old steps new
     → EventIsAnswered event old.clients (map conn_step_of steps) new.clients → (number : ℕ) → KeepsConnection event old.clients steps new.clients number
 keeps event old new steps lawful up up' taken answer number =
-    let opening : Opening = record { at = new.clock; max_inflight = old.max_inflight } in
+    let opening : Opening = record { at = new.clock; limits = inflight_alone old.max_inflight } in
     let before = client_at old.clients number in
     let after = client_at new.clients number in
     let its = steps_of number steps in

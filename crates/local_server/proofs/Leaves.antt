@@ -2,6 +2,7 @@
 use Rattle.std.proofs.Common.{◌≡◌, ◌≢◌, ◌⊎◌, ℕ, nat_eq, Bool, true, false, List, [], ◌∷◌, ◌++◌, Option, Some, None, refl, sym, ap, subst, ◌∙◌, inl, inr, ⊎_elim}
 use Rattle.std.specs.List.{AllByRecursion}
 use Rattle.std.proofs.lemmas.List.Elements.{filter-append}
+use Rattle.conn_rules.specs.Connecting.{inflight_alone}
 use Rattle.conn_supply.specs.declared.reply.Then.TheVariants.{Go}
 use Rattle.conn_engine.specs.declared.phase.Opening.{Opening}
 use Rattle.conn_engine.specs.declared.phase.ConnPhase.{ConnPhase}
@@ -48,7 +49,7 @@ opened false opening before after steps leads = in_event steps (phase_of before)
 if_open : (open? : Bool) (event : ServerEvent) (old new : ServerState) (steps : List TakenStep) (number : ℕ) → AreTakenIf open? event old steps new
     → LeadOn (phase_of (client_at old.clients number)) (steps_of number steps) (phase_of (client_at new.clients number))
 if_open true event old new steps number taken =
-    opened (opens event number) (record { at = new.clock; max_inflight = old.max_inflight }) (client_at old.clients number) (client_at new.clients number) (steps_of number steps) (taken.phases number)
+    opened (opens event number) (record { at = new.clock; limits = inflight_alone old.max_inflight }) (client_at old.clients number) (client_at new.clients number) (steps_of number steps) (taken.phases number)
 if_open false event old new steps number taken =
     subst (λ (s : List TakenStep). LeadOn (phase_of (client_at old.clients number)) (steps_of number s) (phase_of (client_at new.clients number))) (sym taken.0)
     (inl (ap (λ (c : Clients). phase_of (client_at c number)) taken.2))

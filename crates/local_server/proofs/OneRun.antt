@@ -16,6 +16,7 @@ use Rattle.local_broker.proofs.OneOpen.{AreLawful, answers, closes, same_open}
 use Rattle.local_server.specs.declared.event.ServerEvent.{ServerEvent}
 use Rattle.local_server.specs.declared.event.ServerEvent.TheVariants as events
 use Rattle.local_server.specs.declared.event.TimedEvent.{TimedEvent}
+use Rattle.conn_rules.specs.Connecting.{inflight_alone}
 use Rattle.conn_rules.specs.declared.setup.Setup.{Setup}
 use Rattle.local_server.specs.Servers.{Clients, ServerState, IsNewServer}
 use Rattle.local_server.specs.Alike.{AreAlike}
@@ -63,7 +64,7 @@ closed a a' b b' clients c d now xs ys alike h k =
 done : (max_inflight : ℕ) (event : ServerEvent) (a a' b b' : Broker) (clients c d : Clients) (now : ℕ) (xs ys : List StepOutput) → AreLawful a b
     → Does event max_inflight a clients now xs (Ok tt) c a' → Does event max_inflight b clients now ys (Ok tt) d b' → AreOne xs ys c d a' b'
 done max_inflight (events.Open number) a a' b b' clients c d now xs ys alike h k =
-    let opening : Opening = record { at = now; max_inflight = max_inflight } in
+    let opening : Opening = record { at = now; limits = inflight_alone max_inflight } in
     let one = in_cell {X = Unit {0}} clients c d number (Opens number opening) (Opens number opening) (λ before after then does also. (opens number opening before after then does also, tt)) h.0 k.0 in
     (one.0, (h.2 ∙ sym k.2, subst (λ s. AreLawful s b') (sym h.1) (subst (AreLawful a) (sym k.1) alike)))
 done max_inflight (events.Bytes number piece) a a' b b' clients c d now xs ys alike h k =

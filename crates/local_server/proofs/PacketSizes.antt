@@ -30,6 +30,7 @@ use Rattle.local_broker.specs.Broker.{is_open}
 use Rattle.local_broker.specs.Calls.{Calls}
 use Rattle.local_server.specs.declared.event.ServerEvent.{ServerEvent}
 use Rattle.local_server.specs.declared.event.TimedEvent.{TimedEvent}
+use Rattle.conn_rules.specs.Connecting.{inflight_alone}
 use Rattle.conn_rules.specs.declared.setup.Setup.{Setup}
 use Rattle.local_server.specs.Servers.{Clients, ServerState, IsNewServer}
 use Rattle.local_server.specs.Happening.{slot_of, HappensAll}
@@ -191,7 +192,7 @@ if_open : (open? : Bool) (event : ServerEvent) (old new : ServerState) (steps : 
     → AllByRecursion IsLawfulStep steps → AllByRecursion IsShortStep steps → IsFit named (phase_of (client_at old.clients number))
     → AllFit named (steps_of number steps) × IsFit (named_after named (steps_of number steps)) (phase_of (client_at new.clients number))
 if_open true event old new steps number named taken lawful short fit =
-    let opening : Opening = record { at = new.clock; max_inflight = old.max_inflight } in
+    let opening : Opening = record { at = new.clock; limits = inflight_alone old.max_inflight } in
     along (steps_of number steps) named (first_phase (opens event number) opening (client_at old.clients number)) (phase_of (client_at new.clients number))
     (all_of IsLawfulStep number steps lawful) (all_of IsShortStep number steps short) (taken.phases number)
     (first_fit (opens event number) opening (client_at old.clients number) named fit)

@@ -3,8 +3,9 @@ use Rattle.std.proofs.Common.{◌≡◌, ℕ, ◌≤◌, min, nat_eq, Bool, true
 use Rattle.std.specs.List.{AllByRecursion}
 use Rattle.std.proofs.lemmas.List.Elements.{filter-append}
 use Rattle.mqtt_packet.specs.declared.packet.Connect.{Connect}
-use Rattle.conn_rules.specs.Connecting.{terms_of}
+use Rattle.conn_rules.specs.Connecting.{inflight_alone, terms_of}
 use Rattle.conn_rules.specs.declared.setup.Setup.{Setup}
+use Rattle.conn_rules.specs.declared.terms.ClientLimits.{ClientLimits}
 use Rattle.conn_rules.specs.declared.terms.Terms.{Terms}
 use Rattle.conn_engine.specs.declared.input.Input.{Input}
 use Rattle.conn_engine.specs.declared.phase.ConnectedClient.{ConnectedClient}
@@ -32,10 +33,10 @@ use Rattle.local_server.proofs.PacketSizes.{none_at}
 
 -- what a connection is opened with, and the terms that it has
 abbrev OpenedWith : ℕ → Opening → Type 0
-OpenedWith limit opened = opened.max_inflight ≡ limit
+OpenedWith limit opened = opened.limits ≡ inflight_alone limit
 
 abbrev Asked : ℕ → Option Connect → Terms → Type 0
-Asked limit came terms = (connect : Connect) × (came ≡ Some connect) × (terms ≡ terms_of limit connect)
+Asked limit came terms = (connect : Connect) × (came ≡ Some connect) × (terms ≡ terms_of (inflight_alone limit) connect)
 
 abbrev HasAsked : ℕ → Option Connect → ConnPhase GroupPlace → Type 0
 HasAsked limit came phase = terms_asked.Within Calls slot_of (OpenedWith limit) (Asked limit came) phase
@@ -53,12 +54,12 @@ has_asked limit came Ended input has = has
 asks : (limit : ℕ) (came : Option Connect) (phase : ConnPhase GroupPlace) (input : Input)
     → terms_asked.Asks Calls slot_of (OpenedWith limit) (Asked limit (connect_once came phase input)) phase input
 asks limit came phase input opened connect with_limit before is =
-    (connect, (λ i. connect_once came (before i) (is i)), ap (λ (l : ℕ). terms_of l connect) with_limit)
+    (connect, (λ i. connect_once came (before i) (is i)), ap (λ (l : ClientLimits). terms_of l connect) with_limit)
 
 least_of : (limit asked n : ℕ) → n ≤ min (min limit asked) 256 → (n ≤ asked) × (n ≤ limit) × (n ≤ 256)
 least_of limit asked n within = (omega (arith, within), omega (arith, within), omega (arith, within))
 
-keeps_to_connect : (limit : ℕ) (connect : Connect) (connected : ConnectedClient GroupPlace) → connected.terms ≡ terms_of limit connect
+keeps_to_connect : (limit : ℕ) (connect : Connect) (connected : ConnectedClient GroupPlace) → connected.terms ≡ terms_of (inflight_alone limit) connect
     → KeepsQuota (quota_of connected.terms) connected.session.window → KeepsToConnect limit connect connected
 keeps_to_connect limit connect connected terms keeps =
     let all = least_of limit (receive_maximum_of connect) (length connected.session.window.owed)
@@ -101,7 +102,7 @@ along_both (step ∷ these) those limit came keep rest = (keep.0, along_both the
 
 -- ---- the steps of an event
 
-first_within : (limit : ℕ) (opened : Bool) (opening : Opening) (before : Option (ClientState GroupPlace)) (came : Option Connect) → opening.max_inflight ≡ limit → IsWithin limit came (phase_of before)
+first_within : (limit : ℕ) (opened : Bool) (opening : Opening) (before : Option (ClientState GroupPlace)) (came : Option Connect) → opening.limits ≡ inflight_alone limit → IsWithin limit came (phase_of before)
     → IsWithin limit came (first_phase opened opening before)
 first_within limit true opening None came with_limit within = (with_limit, tt)
 first_within limit true opening (Some client) came with_limit within = within
@@ -111,10 +112,10 @@ if_open : (open? : Bool) (event : ServerEvent) (old new : ServerState) (steps : 
     → AllByRecursion IsLawfulStep steps → old.max_inflight ≡ limit → IsWithin limit came (phase_of (client_at old.clients number))
     → KeepToTheirConnects limit came (steps_of number steps) × IsWithin limit (connect_after came (steps_of number steps)) (phase_of (client_at new.clients number))
 if_open true event old new steps number limit came taken lawful with_limit within =
-    let opening : Opening = record { at = new.clock; max_inflight = old.max_inflight } in
+    let opening : Opening = record { at = new.clock; limits = inflight_alone old.max_inflight } in
     along (steps_of number steps) limit came (first_phase (opens event number) opening (client_at old.clients number)) (phase_of (client_at new.clients number))
     (lawful_of number steps lawful) (taken.phases number)
-    (first_within limit (opens event number) opening (client_at old.clients number) came with_limit within)
+    (first_within limit (opens event number) opening (client_at old.clients number) came (ap inflight_alone with_limit) within)
 if_open false event old new steps number limit came taken lawful with_limit within =
     subst (λ (s : List TakenStep). KeepToTheirConnects limit came (steps_of number s) × IsWithin limit (connect_after came (steps_of number s)) (phase_of (client_at new.clients number))) (sym taken.0)
     (tt, subst (λ (c : Clients). IsWithin limit came (phase_of (client_at c number))) (sym taken.2) within)

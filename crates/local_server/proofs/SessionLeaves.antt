@@ -18,6 +18,7 @@ use Rattle.local_broker.specs.Calls.{Calls}
 use Rattle.local_server.specs.declared.event.ServerEvent.{ServerEvent}
 use Rattle.local_server.specs.declared.event.ServerEvent.TheVariants as events
 use Rattle.local_server.specs.declared.event.TimedEvent.{TimedEvent}
+use Rattle.conn_rules.specs.Connecting.{inflight_alone}
 use Rattle.conn_rules.specs.declared.setup.Setup.{Setup}
 use Rattle.local_server.specs.Servers.{Clients, ServerState, IsNewServer}
 use Rattle.local_server.specs.Happening.{slot_of, HappensAll}
@@ -118,7 +119,7 @@ first_desk events.Close old first begins = begins.desk
 in_event : (open? : Bool) (event : ServerEvent) (old new : ServerState) (steps : List TakenStep) → AreTakenIf open? event old steps new
     → Along (links_at old.clients) old.broker.desk steps (links_at new.clients) new.broker.desk
 in_event true event old new steps taken =
-    let opening : Opening = record { at = new.clock; max_inflight = old.max_inflight } in
+    let opening : Opening = record { at = new.clock; limits = inflight_alone old.max_inflight } in
     let there = in_order steps (λ number. first_phase (opens event number) opening (client_at old.clients number)) (λ number. phase_of (client_at new.clients number)) taken.first new.broker taken.broker taken.phases in
     subst (λ (l : Links). Along l old.broker.desk steps (links_at new.clients) new.broker.desk)
     (λ i number. (at_first (opens event number) opening (client_at old.clients number) ∙ at_cell (slice_get old.clients number)) i)

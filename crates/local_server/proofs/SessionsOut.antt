@@ -28,6 +28,7 @@ use Rattle.conn_rules.specs.declared.connecting.FirstAnswer.{FirstAnswer}
 use Rattle.conn_rules.specs.declared.connecting.FirstAnswer.TheVariants as first
 use Rattle.conn_rules.specs.declared.publishing.PublishAnswer.{PublishAnswer}
 use Rattle.conn_rules.specs.declared.publishing.PublishAnswer.TheVariants as answers
+use Rattle.conn_rules.specs.declared.terms.ClientLimits.{ClientLimits}
 use Rattle.conn_rules.specs.Connecting.{first_answer}
 use Rattle.conn_rules.specs.Faults.{fault_refusal}
 use Rattle.conn_rules.specs.KeepAlive.{is_late, is_overdue}
@@ -337,11 +338,11 @@ module _ (n : ℕ) where
   waits_for_connect true opened phase reply new is there = over phase new is.over there
   waits_for_connect false opened phase reply new is there = at_none phase (Unconnected opened) new is.0 refl there
 
-  answers_first : (answer : FirstAnswer) (old new : Broker) (number max_inflight now : ℕ) (packet : Packet) (phase : ConnPhase GroupPlace) (reply : Reply)
-      → AnswersFirst Calls slot_of answer old number max_inflight now packet phase reply new → IsOutThere n old.desk → After phase new
-  answers_first first.Close old new number max_inflight now packet phase reply is was = over phase new is.0.over (same_broker old new is.1 was)
-  answers_first (first.Refuse refusal) old new number max_inflight now packet phase reply is was = over phase new is.0.over (same_broker old new is.1 was)
-  answers_first first.Attach old new number max_inflight now packet phase reply is was = attaches old new number now _ 0 phase reply is.2 was
+  answers_first : (answer : FirstAnswer) (old new : Broker) (number : ℕ) (limits : ClientLimits) (now : ℕ) (packet : Packet) (phase : ConnPhase GroupPlace) (reply : Reply)
+      → AnswersFirst Calls slot_of answer old number limits now packet phase reply new → IsOutThere n old.desk → After phase new
+  answers_first first.Close old new number limits now packet phase reply is was = over phase new is.0.over (same_broker old new is.1 was)
+  answers_first (first.Refuse refusal) old new number limits now packet phase reply is was = over phase new is.0.over (same_broker old new is.1 was)
+  answers_first first.Attach old new number limits now packet phase reply is was = attaches old new number now _ 0 phase reply is.2 was
 
   swept : (old new : Broker) (now : ℕ) (calls : asides.Aside Calls [] [] [] [] old new) → IsOutThere n old.desk → IsOutThere n new.desk
   swept old new now calls was = leads old new (record { supply_calls = calls.supply_calls; made = calls.made; aside = calls.aside }) was
@@ -349,7 +350,7 @@ module _ (n : ℕ) where
   reply_out : (phase : ConnPhase GroupPlace) (input : Input) (old new : Broker) (number now : ℕ) (between : ConnPhase GroupPlace) (reply : Reply) → (session_at phase ≡ Some n → IsOut phase)
       → (session_at phase ≡ Some n → GrantsNone input reply) → Reacts Calls slot_of old number phase now input between reply new → IsOutThere n old.desk → After between new
   reply_out (Unconnected opened) (inputs.Packet packet) old new number now between reply out none is was =
-      answers_first (first_answer packet) old new number opened.max_inflight now packet between reply is was
+      answers_first (first_answer packet) old new number opened.limits now packet between reply is was
   reply_out (Unconnected opened) (inputs.Fault fault) old new number now between reply out none is was =
       over between new (refused_if (fault_refusal fault) between reply is.0) (same_broker old new is.1 was)
   reply_out (Unconnected opened) inputs.Tick old new number now between reply out none is was =

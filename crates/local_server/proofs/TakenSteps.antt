@@ -26,6 +26,7 @@ use Rattle.local_broker.specs.Calls.{Calls}
 use Rattle.local_server.specs.declared.event.ServerEvent.{ServerEvent}
 use Rattle.local_server.specs.declared.event.ServerEvent.TheVariants as events
 use Rattle.local_server.specs.declared.event.TimedEvent.{TimedEvent}
+use Rattle.conn_rules.specs.Connecting.{inflight_alone}
 use Rattle.conn_rules.specs.declared.setup.Setup.{Setup}
 use Rattle.local_server.specs.Servers.{Clients, ServerState, IsNewServer}
 use Rattle.local_server.specs.Addressed.{AreNumbered}
@@ -428,7 +429,7 @@ record Done (event : ServerEvent) (old : ServerState) (said : List StepOutput) (
 in_event : (event : ServerEvent) (old new : ServerState) (said : List StepOutput) (first : Broker) → ((number : ℕ) → opens event number ≡ false) → BeginsWith event old.broker first
     → Taken (IsOf event) (AllAt new.clock (λ more. EventIsAnswered event old.clients more new.clients)) first old.clients said new.clients new.broker → Done event old said new
 in_event event old new said first opens_none begins taken =
-    let opening : Opening = record { at = new.clock; max_inflight = old.max_inflight } in
+    let opening : Opening = record { at = new.clock; limits = inflight_alone old.max_inflight } in
     record {
       steps = taken.steps;
       outputs = taken.outputs;
@@ -450,7 +451,7 @@ in_event event old new said first opens_none begins taken =
 does : (event : ServerEvent) (old new : ServerState) (said : List StepOutput) (result : Result (Unit {0}) NoMemory) → IsOk result → AreNumbered old.clients → AreSound new.clock old.clients
     → Does event old.max_inflight old.broker old.clients new.clock said result new.clients new.broker → Done event old said new
 does (events.Open number) old new said result ok all sound done =
-    let opening : Opening = record { at = new.clock; max_inflight = old.max_inflight } in
+    let opening : Opening = record { at = new.clock; limits = inflight_alone old.max_inflight } in
     record {
       steps = [];
       outputs = done.2;

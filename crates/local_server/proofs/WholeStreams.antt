@@ -12,6 +12,7 @@ use Rattle.conn_engine.specs.declared.input.Input.TheVariants as inputs
 use Rattle.conn_engine.specs.declared.phase.Opening.{Opening}
 use Rattle.conn_engine.specs.declared.phase.ConnPhase.{ConnPhase}
 use Rattle.conn_engine.specs.declared.phase.ConnPhase.TheVariants.{Unconnected, Ended}
+use Rattle.conn_rules.specs.Connecting.{inflight_alone}
 use Rattle.conn_rules.specs.declared.setup.Setup.{Setup}
 use Rattle.conn_laws.specs.Behind.{IsLast}
 use Rattle.conn_laws.proofs.Ended.{ends, ends_by}
@@ -274,9 +275,9 @@ in_event (events.Open its) number stream earlier old new said result steps lawfu
     let cell = done.0 in
     ⊎_elim
     (λ (same : number ≡ its).
-    opens_it its number stream earlier (client_at old.clients number) (client_at new.clients number) (steps_of number steps) (record { at = new.clock; max_inflight = old.max_inflight }) (sym same) none
-    (subst (λ (n : ℕ). Opens n (record { at = new.clock; max_inflight = old.max_inflight }) (client_at old.clients n) (client_at new.clients n)) (sym same)
-    (cell_heard old.clients new.clients its _ cell (Opens its (record { at = new.clock; max_inflight = old.max_inflight })) cell.becomes)) keeps)
+    opens_it its number stream earlier (client_at old.clients number) (client_at new.clients number) (steps_of number steps) (record { at = new.clock; limits = inflight_alone old.max_inflight }) (sym same) none
+    (subst (λ (n : ℕ). Opens n (record { at = new.clock; limits = inflight_alone old.max_inflight }) (client_at old.clients n) (client_at new.clients n)) (sym same)
+    (cell_heard old.clients new.clients its _ cell (Opens its (record { at = new.clock; limits = inflight_alone old.max_inflight })) cell.becomes)) keeps)
     (λ (other : number ≢ its).
     stays_so true (events.Open its) number stream earlier (client_at old.clients number) (client_at new.clients number) (steps_of number steps) (ne_eqb its number (λ e. other (sym e))) refl
     (ap reading_steps none)

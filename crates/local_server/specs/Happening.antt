@@ -1,6 +1,7 @@
 -- What an event makes of a server on one thread, and what is said in it.
 use Rattle.std.specs.Prelude.{◌≡◌, ℕ, zero, suc, max, Bool, true, false, List, [], ◌∷◌, ◌++◌, Result, Ok}
 use Rattle.std.specs.Result.{result_and}
+use Rattle.conn_rules.specs.Connecting.{inflight_alone}
 use Rattle.conn_supply.specs.declared.supply.NoMemory.{NoMemory}
 use Rattle.conn_engine.specs.declared.input.Input.TheVariants as inputs
 use Rattle.client_table.specs.Clients.{StepOutput}
@@ -36,10 +37,10 @@ abbrev pub ClosesAll : Broker → Clients → ℕ → List StepOutput → Result
 ClosesAll old clients now said result clients' new =
     (closed : Broker) × Closes old closed × (many : ℕ) × (many ≡ 64) × EndsFirst many closed clients now said result clients' new
 
--- an event, at this moment, of a server that is open, where a connection is opened with this limit: what is said, and what becomes of the server; or an allocation failed
+-- an event, at this moment, of a server that is open, where a connection is opened with this limit, and no other: what is said, and what becomes of the server; or an allocation failed
 abbrev pub Does : ServerEvent → ℕ → Broker → Clients → ℕ → List StepOutput → Result (Unit {0}) NoMemory → Clients → Broker → Type 0
 Does (events.Open number) max_inflight old clients now said result clients' new =
-    InCell clients number (Opens number (record { at = now; max_inflight = max_inflight })) clients' × (new ≡ old) × (said ≡ []) × (result ≡ Ok tt)
+    InCell clients number (Opens number (record { at = now; limits = inflight_alone max_inflight })) clients' × (new ≡ old) × (said ≡ []) × (result ≡ Ok tt)
 Does (events.Bytes number piece) max_inflight old clients now said result clients' new =
     InCell clients number (λ before after. Receives Calls slot_of old before now piece said result after new) clients'
 Does (events.Tick number) max_inflight old clients now said result clients' new =

@@ -2,7 +2,7 @@
 use Rattle.std.specs.Prelude.{◌≡◌, ◌≤◌, ℕ, List, [], ◌∷◌, length, Option, Some, None, ⊤}
 use Rattle.mqtt_packet.specs.declared.packet.Connect.{Connect}
 use Rattle.mqtt_packet.specs.declared.packet.Packet.TheVariants as packets
-use Rattle.conn_rules.specs.Connecting.{or_else, terms_of}
+use Rattle.conn_rules.specs.Connecting.{inflight_alone, or_else, terms_of}
 use Rattle.conn_engine.specs.declared.input.Input.{Input}
 use Rattle.conn_engine.specs.declared.input.Input.TheVariants as inputs
 use Rattle.conn_engine.specs.declared.phase.ConnectedClient.{ConnectedClient}
@@ -27,18 +27,18 @@ connect_once came (Waiting request ticks) input = came
 connect_once came (Connected connected) input = came
 connect_once came Ended input = None
 
--- A client that has its session has the terms of this CONNECT, on a server with this limit: of the PUBLISH packets that were sent on its connection, no more are unacknowledged than
+-- A client that has its session has the terms of this CONNECT, on a server with this limit, and no other: of the PUBLISH packets that were sent on its connection, no more are unacknowledged than
 -- the Receive Maximum of the CONNECT, nor than the limit, nor than 256 (profile).
 pub record KeepsToConnect (limit : ℕ) (connect : Connect) (connected : ConnectedClient GroupPlace) : Type 0 where
-  pub terms : connected.terms ≡ terms_of limit connect
+  pub terms : connected.terms ≡ terms_of (inflight_alone limit) connect
   pub asked : length connected.session.window.owed ≤ receive_maximum_of connect
   pub limited : length connected.session.window.owed ≤ limit
   pub most : length connected.session.window.owed ≤ 256
 
 -- a connection keeps to its CONNECT, where one came: one that waits for its session has the terms of it, too; and before it came, a connection has the limit of the server
 abbrev pub KeepsTo : (limit : ℕ) → Option Connect → ConnPhase GroupPlace → Type 0
-KeepsTo limit came (Unconnected opened) = opened.max_inflight ≡ limit
-KeepsTo limit came (Waiting request ticks) = (connect : Connect) × (came ≡ Some connect) × (request.terms ≡ terms_of limit connect)
+KeepsTo limit came (Unconnected opened) = opened.limits ≡ inflight_alone limit
+KeepsTo limit came (Waiting request ticks) = (connect : Connect) × (came ≡ Some connect) × (request.terms ≡ terms_of (inflight_alone limit) connect)
 KeepsTo limit came (Connected connected) = (connect : Connect) × (came ≡ Some connect) × KeepsToConnect limit connect connected
 KeepsTo limit came Ended = ⊤
 

@@ -2,6 +2,7 @@
 use Rattle.std.specs.Prelude.{◌≡◌, ℕ, nat_eq, Bool, true, false, List, [], ◌∷◌, ◌++◌, map, filter, Option, Some, None}
 use Rattle.std.specs.List.{AllByRecursion}
 use Rattle.mqtt_packet.specs.declared.packet.Packet.{Packet}
+use Rattle.conn_rules.specs.Connecting.{inflight_alone}
 use Rattle.conn_supply.specs.declared.reply.Then.{Then}
 use Rattle.conn_engine.specs.declared.input.Input.{Input}
 use Rattle.conn_engine.specs.declared.input.Input.TheVariants as inputs
@@ -103,7 +104,7 @@ pub record AreTakenIn (event : ServerEvent) (old : ServerState) (steps : List Ta
   pub first : Broker
   pub begins : BeginsWith event old.broker first
   pub broker : LeadBroker first steps new.broker
-  pub phases : (number : ℕ) → LeadPhase (first_phase (opens event number) (record { at = new.clock; max_inflight = old.max_inflight }) (client_at old.clients number)) (steps_of number steps) (phase_of (client_at new.clients number))
+  pub phases : (number : ℕ) → LeadPhase (first_phase (opens event number) (record { at = new.clock; limits = inflight_alone old.max_inflight }) (client_at old.clients number)) (steps_of number steps) (phase_of (client_at new.clients number))
   pub each : AllByRecursion (IsOf event) steps
   -- a connection that is not open takes none
   pub closed : (number : ℕ) → client_at old.clients number ≡ None → steps_of number steps ≡ []

@@ -126,7 +126,7 @@ pub fn message_law()
         IsNewServer setup first → (run : HappensAll first events said last) → SendsWhatWasAccepted first events said last run }
 {}
 
-/// **No packet is too long to be written**, along every run (section 2.1.4): each packet that is said has at most 65,556 bytes in all (`short`), and so a
+/// **No packet is too long to be written**, along every run (section 2.1.4): each packet that is said has at most 65,564 bytes in all (`short`), and so a
 /// Remaining Length that can be said: `mqtt_wire`'s `encode` refuses none as too large (`writable`). For a message is handed on as it came in a PUBLISH
 /// that was read, which has at most 65,536 bytes. The runs are those in which no allocation failed.
 pub fn size_law()

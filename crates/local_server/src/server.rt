@@ -9,7 +9,7 @@ ghost use Rattle.local_server.specs.Happening.{ClosesAll, Does, Happens};
 use crate::event::ServerEvent;
 use client_table::{CLIENTS, ClientTable, StepOutput};
 use conn_engine::Opening;
-use conn_rules::{MaxInflight, Setup};
+use conn_rules::{ClientLimits, MaxInflight, Setup};
 use conn_supply::{NoMemory, Supply};
 use local_broker::{LocalPlace, LocalSupply};
 use mqtt_topic::Share;
@@ -88,11 +88,14 @@ impl Server {
         if !self.supply.begin() {
             return Ok(());
         }
-        let opening = Opening {
-            at: self.clock,
-            max_inflight: self.max_inflight,
-        };
-        let served = serve(&mut self.supply, &mut self.clients, opening, event, said);
+        let served = serve(
+            &mut self.supply,
+            &mut self.clients,
+            self.clock,
+            self.max_inflight,
+            event,
+            said,
+        );
         self.supply.end();
         served
     }
@@ -129,21 +132,25 @@ impl Server {
     }
 }
 
-/// An event at the moment of this opening, where the server is open; a connection is opened so.
+/// An event at this moment, where the server is open; a connection is opened with this limit, and no other.
 fn serve(
     supply: &mut LocalSupply,
     clients: &mut ClientTable<LocalPlace>,
-    opening: Opening,
+    now: u64,
+    max_inflight: MaxInflight,
     event: &ServerEvent,
     said: &mut Vec<StepOutput>,
 ) -> Result<(), NoMemory>
     requires { is_open supply.old ≡ true }
     ensures { (more : List Output) × (said.new.items ≡ said.old.items ++ more)
-        × Does event.now opening.max_inflight supply.old clients.old opening.at more result clients.new supply.new }
+        × Does event.now max_inflight supply.old clients.old now more result clients.new supply.new }
 {
-    let now = opening.at;
     match event {
         ServerEvent::Open(number) => {
+            let opening = Opening {
+                at: now,
+                limits: ClientLimits::inflight_alone(max_inflight),
+            };
             clients.open(number.get(), opening);
             Ok(())
         }

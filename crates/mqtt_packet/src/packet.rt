@@ -67,8 +67,12 @@ pub enum Connack {
 pub struct Acceptance {
     /// Section 3.2.2.1.1.
     pub session_present: bool,
+    /// Seconds, where it is not what the client asked for (section 3.2.2.3.2).
+    pub session_expiry_interval: Option<u32>,
     /// The identifier that the server gave to a client without one (section 3.2.2.3.7).
     pub assigned_client_identifier: Option<Text>,
+    /// Seconds, where it is not what the client asked for; 0 turns the keep alive off (section 3.2.2.3.14).
+    pub server_keep_alive: Option<u16>,
     pub offer: Offer,
 }
 

@@ -1,6 +1,7 @@
 -- How many bytes each body is written in, and steps of writing.
 use Rattle.std.proofs.Common.{◌≡◌, ℕ, ◌+◌, ◌<◌, ◌≤◌, List, [], ◌∷◌, ◌++◌, length, get_or, take, Option, Some, None, refl, ap, ◌∙◌, arith, length-append}
-use Rattle.std.specs.Prelude.{MatchOption}
+use Rattle.std.specs.Prelude.{◌^◌, ◌/◌, ◌%◌, MatchOption}
+use Rattle.std.specs.Int.{w32, to_be_bytes}
 use Rattle.std.specs.List.{flat_map}
 use Rattle.std.proofs.lemmas.List.Folds.{length-flat_map-take}
 use Rattle.mqtt_packet.specs.declared.packet.Connect.{Connect}
@@ -10,11 +11,17 @@ use Rattle.mqtt_packet.specs.declared.packet.ConnectRefusal.{ConnectRefusal}
 use Rattle.mqtt_packet.specs.declared.packet.Packet.{Packet}
 use Rattle.mqtt_packet.specs.declared.packet.Publish.{Publish}
 use Rattle.mqtt_packet.specs.declared.packet.Subscription.{Subscription}
-use Rattle.mqtt_fields.specs.Forms.{u16_bytes, binary_data, utf8_string, variable_bytes, variable_byte_integer}
+use Rattle.mqtt_fields.specs.Forms.{u16_bytes, u32_bytes, binary_data, utf8_string, variable_bytes, variable_byte_integer}
 use Rattle.mqtt_wire.specs.Connacks.{connack_properties, connack_body}
 use Rattle.mqtt_wire.specs.Writing.{connect_payload, delivery_bytes, reason_bytes, options_byte, subscription_bytes, connect_body, publish_body, written_body, written, remaining_length}
 use Rattle.mqtt_fields.specs.Sections.{properties}
 use Rattle.mqtt_fields.specs.PropertyLists.{bytes_if, connect_list, publish_list}
+
+-- the bytes of a Four Byte Integer, the most significant first
+pub four_bytes : (n : ℕ) → n < 2 ^ 32 → to_be_bytes w32 n ≡ u32_bytes n
+four_bytes n small =
+    let high : n / 16777216 % 256 ≡ n / 16777216 = omega arith in
+    ap (λ (byte : ℕ). byte ∷ n / 65536 % 256 ∷ n / 256 % 256 ∷ n % 256 ∷ []) high
 
 -- a section of properties
 pub properties_size : (list : List ℕ) → length (properties list) ≡ length (variable_byte_integer (length list)) + length list

@@ -8,13 +8,21 @@ use Rattle.mqtt_packet.specs.declared.packet.Acceptance.{Acceptance}
 use Rattle.mqtt_packet.specs.declared.packet.ConnectRefusal.{ConnectRefusal}
 use Rattle.mqtt_packet.specs.declared.packet.ConnectRefusal.TheVariants as refusals
 use Rattle.mqtt_packet.specs.declared.offer.Offer.{Offer}
-use Rattle.mqtt_fields.specs.Forms.{u32_bytes, utf8_string, bit}
+use Rattle.mqtt_fields.specs.Forms.{u16_bytes, u32_bytes, utf8_string, bit}
 use Rattle.mqtt_fields.specs.Sections.{properties}
 use Rattle.mqtt_fields.specs.PropertyLists.{bytes_if}
+
+-- 3.2.2.3.2: after how many seconds the session expires
+abbrev pub expiry : ℕ → List ℕ
+expiry seconds = 0x11 ∷ u32_bytes seconds
 
 -- 3.2.2.3.7: the identifier that was assigned
 abbrev pub assigned : List ℕ → List ℕ
 assigned identifier = 0x12 ∷ utf8_string identifier
+
+-- 3.2.2.3.14: the Keep Alive that the client has to use, in seconds
+abbrev pub keep_alive : ℕ → List ℕ
+keep_alive seconds = 0x13 ∷ u16_bytes seconds
 
 -- 3.2.2.3.4 Maximum QoS: left out where it is 2
 abbrev pub maximum_qos_bytes : QoS → List ℕ
@@ -35,9 +43,14 @@ offer_bytes o =
     ++ (bytes_if (λ size. 0x27 ∷ u32_bytes size) o.maximum_packet_size
     ++ unless_available 0x29 o.subscription_identifiers_available))
 
--- 3.2.2.3: an identifier that was assigned, and what the server offers
+-- 3.2.2.3: the expiry interval and the keep alive, where they are not what the client asked for, an identifier that was assigned, and
+-- what the server offers
 abbrev pub connack_properties : Acceptance → List ℕ
-connack_properties a = bytes_if assigned a.assigned_client_identifier ++ offer_bytes a.offer
+connack_properties a =
+    bytes_if expiry a.session_expiry_interval
+    ++ (bytes_if assigned a.assigned_client_identifier
+    ++ (bytes_if keep_alive a.server_keep_alive
+    ++ offer_bytes a.offer))
 
 -- 3.2.2.2: the Reason Code of a refusal
 abbrev pub refusal_code : ConnectRefusal → ℕ

@@ -112,11 +112,21 @@ pub(crate) fn connack_properties_size(acceptance: &Acceptance) -> usize
     ensures value { result ≡ length (connack_properties acceptance.now) }
     ensures small { result < 2 ^ 17 }
 {
+    let expiry = if acceptance.session_expiry_interval.is_some() {
+        5
+    } else {
+        0
+    };
     let assigned = match &acceptance.assigned_client_identifier {
         Some(identifier) => 3 + identifier.as_bytes().len(),
         None => 0,
     };
-    assigned + offer_size(&acceptance.offer)
+    let keep_alive = if acceptance.server_keep_alive.is_some() {
+        3
+    } else {
+        0
+    };
+    expiry + assigned + keep_alive + offer_size(&acceptance.offer)
 }
 
 /// How many bytes the properties take that say what a server offers.

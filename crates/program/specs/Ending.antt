@@ -65,10 +65,10 @@ WroteSolo setup input = Wrote (solo.IsOutputFor setup input) (λ line. stream_of
 abbrev pub WroteDrive : Setup → List ℕ → Result (Unit {0}) RunError → Option (List ℕ) → Option (List ℕ) → Type 0
 WroteDrive setup input = Wrote (IsDriveOutput setup input) (λ line. script_of input ≡ Err line)
 
--- A broker was served at the port, with groups of the capacity, with the workers, the limit and the shares that were asked for: what it
+-- A broker was served at the port, with groups of the capacity, with the workers, the limits and the shares that were asked for: what it
 -- wrote by how it ended is in the output.
 pub record IsServedFor (service : ServeOptions) (ended : Result (Unit {0}) RunError) (old new : Option (List ℕ)) : Type 0 where
-  pub served : IsServedAt service.port service.setup.capacity service.workers service.setup.max_inflight service.setup.groups ended old new
+  pub served : IsServedAt service.port service.capacity service.workers service.limits service.groups ended old new
 
 -- What a broker read of the input, of which this is left. Until standard input ends: it ended with no error only where that had ended. Until it
 -- is killed: nothing, and it did not end but with an error.

@@ -162,9 +162,9 @@ fn serve_reading<H: Threads + Wait + Net + Clock + Sync, R: Read + Send, W: Writ
     ensures read { IfOk result (λ _. IsAtEnd (R.remaining reader.new)) }
 {
     let settings = ServeSettings {
-        capacity: service.setup.capacity.get() as usize,
+        capacity: service.capacity.get() as usize,
         workers: service.workers,
-        max_inflight: service.setup.max_inflight,
+        limits: service.limits,
         drain: service.drain,
         newcomers: newcomers_of(service.keep_parked),
         new_shares: new_shares_of(service.declared_groups),
@@ -179,7 +179,7 @@ fn serve_reading<H: Threads + Wait + Net + Clock + Sync, R: Read + Send, W: Writ
         rt,
         alloc,
         settings,
-        &service.setup.groups,
+        &service.groups,
         at,
         log,
         reader,

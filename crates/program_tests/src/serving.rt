@@ -93,6 +93,22 @@ fn what_words_of_serve_ask_for(rt: HostRuntime) -> Result<(), Fail> {
             "share_broker serve --per-address 3 --port 1",
             "serve 127.0.0.1:1 8 Stdin 0 0 Off 3 each 1024 256",
         ),
+        (
+            "share_broker serve --port 1 --max-expiry 1",
+            "serve 127.0.0.1:1 8 Stdin 0 0 Off expiry 1 1024 256",
+        ),
+        (
+            "share_broker serve --port 1 --max-expiry 4294967295",
+            "serve 127.0.0.1:1 8 Stdin 0 0 Off expiry 4294967295 1024 256",
+        ),
+        (
+            "share_broker serve --max-keep-alive 1 --port 1",
+            "serve 127.0.0.1:1 8 Stdin 0 0 Off alive 1 1024 256",
+        ),
+        (
+            "share_broker serve --max-keep-alive=65535 --port 1 --max-expiry=3600 --max-inflight 2 --group g:job",
+            "serve 127.0.0.1:1 8 Stdin 0 0 Off expiry 3600 alive 65535 1024 2 $share/g/job",
+        ),
         ("share_broker serve --port 1 --address localhost", "2"),
         ("share_broker serve --port 1 --address 1.2.3", "2"),
         ("share_broker serve --port 1 --address 1.2.3.256", "2"),
@@ -158,6 +174,29 @@ fn faults_of_options(rt: HostRuntime) -> Result<(), Fail> {
         ("share_broker serve --port 1 --per-address -1", "2"),
         ("share_broker serve --port 1 --per-address 65536", "2"),
         ("share_broker solo --per-address 1", "2"),
+        ("share_broker serve --port 1 --max-expiry", "2"),
+        ("share_broker serve --port 1 --max-expiry 0", "2"),
+        ("share_broker serve --port 1 --max-expiry -1", "2"),
+        ("share_broker serve --port 1 --max-expiry 4294967296", "2"),
+        ("share_broker serve --port 1 --max-expiry 1h", "2"),
+        (
+            "share_broker serve --port 1 --max-expiry 1 --max-expiry 1",
+            "2",
+        ),
+        ("share_broker drive --max-expiry 1", "2"),
+        ("share_broker serve --port 1 --max-keep-alive", "2"),
+        ("share_broker serve --port 1 --max-keep-alive 0", "2"),
+        ("share_broker serve --port 1 --max-keep-alive 65536", "2"),
+        (
+            "share_broker serve --port 1 --max-keep-alive 4294967295",
+            "2",
+        ),
+        ("share_broker serve --port 1 --max-keep-alive never", "2"),
+        (
+            "share_broker serve --port 1 --max-keep-alive 1 --max-keep-alive 1",
+            "2",
+        ),
+        ("share_broker solo --max-keep-alive 1", "2"),
     ];
     assert_asked(&rt, rt.alloc(), &rows)
 }

@@ -1,7 +1,8 @@
 //! Words, and what they ask for.
 use crate::asserting::assert_text;
-use arguments::{Request, arguments};
-use conn_rules::Setup;
+use arguments::{Request, ServeOptions, arguments};
+use conn_rules::{ClientLimits, MaxInflight, QueueCapacity, Setup};
+use mqtt_topic::Routes;
 use std::alloc::{AllocError, Global};
 use std::test::Fail;
 
@@ -14,48 +15,83 @@ pub(crate) fn words_of(alloc: Global, line: &str) -> Result<Vec<String>, AllocEr
     Ok(words)
 }
 
-/// What a line asks for: the command, and of `serve` the address, the port, the workers, until when, the time to drain, the port of metrics, the level of its log,
-/// whether parked sessions are kept, whether groups are to be declared and how many connections an address may have; the capacity, the limit of unacknowledged messages and the shares; or the status of its fault.
+/// What a line asks for: the command, and of `serve` what it has of its own; the capacity, the limit of unacknowledged messages and the shares; or the status of its fault.
 pub(crate) fn asked(alloc: Global, line: &str) -> Result<String, AllocError> {
     let words = words_of(alloc, line)?;
     match arguments(alloc, &words) {
-        Ok(Request::Solo(setup)) => told(alloc, "solo", &setup),
-        Ok(Request::Drive(setup)) => told(alloc, "drive", &setup),
-        Ok(Request::Serve(service)) => {
-            let kept = if service.keep_parked { " kept" } else { "" };
-            let declared = if service.declared_groups {
-                " declared"
-            } else {
-                ""
-            };
-            let each = match service.per_address {
-                0 => String::new(alloc),
-                most => format!(in alloc; " {most} each")?,
-            };
-            let command = format!(in alloc;
-                "serve {}:{} {} {:?} {} {} {:?}{kept}{declared}{each}",
-                service.address,
-                service.port,
-                service.workers,
-                service.until,
-                service.drain,
-                service.metrics,
-                service.log
-            )?;
-            told(alloc, command.as_str(), &service.setup)
-        }
+        Ok(Request::Solo(setup)) => server(alloc, "solo", &setup),
+        Ok(Request::Drive(setup)) => server(alloc, "drive", &setup),
+        Ok(Request::Serve(service)) => broker(alloc, &service),
         Err(error) => format!(in alloc; "{}", error.exit_code()),
     }
 }
 
-/// A command, and what its server begins with: the shares in the order of their slots.
-fn told(alloc: Global, command: &str, setup: &Setup) -> Result<String, AllocError> {
-    let mut text = format!(in alloc;
-        "{command} {} {}",
-        setup.capacity.get(),
-        setup.max_inflight.get()
+/// What `solo` or `drive` begins with.
+fn server(alloc: Global, command: &str, setup: &Setup) -> Result<String, AllocError> {
+    told(
+        alloc,
+        command,
+        setup.capacity,
+        setup.max_inflight,
+        &setup.groups,
+    )
+}
+
+/// What `serve` begins with: the address, the port, the workers, until when, the time to drain, the port of metrics, the level of its log, whether parked sessions are kept, whether
+/// groups are to be declared, how many connections an address may have, and the longest expiry and keep alive.
+fn broker(alloc: Global, service: &ServeOptions) -> Result<String, AllocError> {
+    let kept = if service.keep_parked { " kept" } else { "" };
+    let declared = if service.declared_groups {
+        " declared"
+    } else {
+        ""
+    };
+    let each = match service.per_address {
+        0 => String::new(alloc),
+        most => format!(in alloc; " {most} each")?,
+    };
+    let limits = limited(alloc, service.limits)?;
+    let command = format!(in alloc;
+        "serve {}:{} {} {:?} {} {} {:?}{kept}{declared}{each}{limits}",
+        service.address,
+        service.port,
+        service.workers,
+        service.until,
+        service.drain,
+        service.metrics,
+        service.log
     )?;
-    for share in setup.groups.shares() {
+    told(
+        alloc,
+        command.as_str(),
+        service.capacity,
+        service.limits.max_inflight,
+        &service.groups,
+    )
+}
+
+/// The longest expiry and the longest keep alive, where they are limited.
+fn limited(alloc: Global, limits: ClientLimits) -> Result<String, AllocError> {
+    let expiry = match limits.max_expiry {
+        Some(seconds) => format!(in alloc; " expiry {seconds}")?,
+        None => String::new(alloc),
+    };
+    match limits.max_keep_alive {
+        Some(seconds) => format!(in alloc; "{expiry} alive {seconds}"),
+        None => Ok(expiry),
+    }
+}
+
+/// A command, and what its server begins with: the shares in the order of their slots.
+fn told(
+    alloc: Global,
+    command: &str,
+    capacity: QueueCapacity,
+    max_inflight: MaxInflight,
+    groups: &Routes,
+) -> Result<String, AllocError> {
+    let mut text = format!(in alloc; "{command} {} {}", capacity.get(), max_inflight.get())?;
+    for share in groups.shares() {
         text.push(' ')?;
         text.push_str(std::str::from_utf8(share.text()).unwrap_or("no text"))?;
     }

@@ -4,7 +4,7 @@ ghost use Rattle.std.specs.Prelude.{◌≤◌};
 use crate::wrong::Wrong;
 use broker_log::{Level, Log};
 use bytes::Bytes;
-use conn_rules::MaxInflight;
+use conn_rules::{ClientLimits, MaxInflight};
 use mqtt_packet::Text;
 use mqtt_topic::{Routes, Share};
 use session_desk::Newcomers;
@@ -58,24 +58,26 @@ pub(crate) struct Counts {
     pub(crate) discardable: u64,
 }
 
-/// Where a broker listens, how many workers it has, for how many seconds it drains at most, what it does with shares that are not declared, and how many connections an address may
-/// have, 0 for any number. Where it refuses shares, `$share/g/job` is declared.
+/// Where a broker listens, how many workers it has, for how many seconds it drains at most, what its clients are granted at most, what it does with shares that are not declared, and how
+/// many connections an address may have, 0 for any number. Where it refuses shares, `$share/g/job` is declared.
 #[derive(Clone, Copy)]
 pub(crate) struct Listener {
     pub(crate) port: u16,
     pub(crate) workers: u8,
     pub(crate) drain: u32,
+    pub(crate) limits: ClientLimits,
     pub(crate) new_shares: NewShares,
     pub(crate) per_address: u32,
 }
 
 impl Listener {
-    /// One with so many workers, which does not drain, binds what clients ask for and takes any number of connections.
+    /// One with so many workers, which does not drain, limits its clients to 256 messages, binds what clients ask for and takes any number of connections.
     pub(crate) fn at(port: u16, workers: u8) -> Listener {
         Listener {
             port,
             workers,
             drain: 0,
+            limits: ClientLimits::inflight_alone(MaxInflight::most()),
             new_shares: NewShares::Bound,
             per_address: 0,
         }
@@ -141,7 +143,7 @@ fn serve<R: Threads + Wait + Net<Listener = TcpListener, Stream = TcpStream> + C
     let settings = ServeSettings {
         capacity: 64,
         workers: broker.workers.clamp(1, 64),
-        max_inflight: MaxInflight::most(),
+        limits: broker.limits,
         drain: broker.drain,
         newcomers: Newcomers::Displace,
         new_shares: broker.new_shares,

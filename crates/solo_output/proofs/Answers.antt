@@ -16,7 +16,8 @@ use Rattle.session_desk.specs.declared.session.Membership.TheVariants.{NotMember
 use Rattle.session_desk.specs.Rows.{Rows}
 use Rattle.conn_rules.specs.declared.publishing.PublishAnswer.{PublishAnswer}
 use Rattle.conn_rules.specs.declared.publishing.PublishAnswer.TheVariants as publishing
-use Rattle.conn_rules.specs.Connecting.{is_given_expiry}
+use Rattle.conn_rules.specs.Connecting.{is_given_expiry, granted_expiry}
+use Rattle.conn_rules.specs.declared.terms.Terms.{Terms}
 use Rattle.conn_rules.specs.Packets.{disconnect, puback, suback, unsuback}
 use Rattle.conn_rules.specs.Publishing.{publish_answer, puback_code, message_of}
 use Rattle.conn_rules.specs.Subscribing.{subscribe_refusal, unsubscribe_refusal}
@@ -200,16 +201,19 @@ module _ (solo : SoloState) (connected : ConnectedClient GroupPlace) (old : Brok
   disconnects_if : (given : Bool) (seconds : ℕ) (connected' : ConnectedClient GroupPlace) (reply : ConnReply) (new : Broker) → is_given_expiry seconds solo.terms ≡ given → DisconnectsIf given connected seconds connected' reply → new ≡ old
       → Answered (disconnect_reply (Some seconds) solo) connected' reply new
   disconnects_if true seconds connected' reply new is does still =
-      subst (λ (b : Bool). Answered (cond b (closing (Some (disconnect 0x82)) solo) (closing None (with_expiry seconds solo))) connected' reply new) (sym is) (closes _ connected' reply new does.0 does.1 still)
+      subst (λ (b : Bool). Answered (cond b (closing (Some (disconnect 0x82)) solo) (closing None (with_expiry (granted_expiry solo.terms seconds) solo))) connected' reply new) (sym is)
+      (closes _ connected' reply new does.0 does.1 still)
   disconnects_if false seconds connected' reply new is does still =
-      subst (λ (b : Bool). Answered (cond b (closing (Some (disconnect 0x82)) solo) (closing None (with_expiry seconds solo))) connected' reply new) (sym is)
+      let granted = granted_expiry solo.terms seconds in
+      let expired : connected' ≡ expiring connected granted = does.0 ∙ ap (λ (t : Terms). expiring connected (granted_expiry t seconds)) shows.terms in
+      subst (λ (b : Bool). Answered (cond b (closing (Some (disconnect 0x82)) solo) (closing None (with_expiry granted solo))) connected' reply new) (sym is)
       (record {
         told = ap (λ (r : ConnReply). r.packet) does.1;
         stands = inr (
           ap (λ (r : ConnReply). r.next) does.1,
           refl,
-          subst (λ (l : ConnectedClient GroupPlace). ShowsSession (with_phase Closed (with_expiry seconds solo)) l.session new) (sym does.0)
-              (subst (ShowsSession (with_phase Closed (with_expiry seconds solo)) (expiring connected seconds).session) (sym still) (expires seconds)),
+          subst (λ (l : ConnectedClient GroupPlace). ShowsSession (with_phase Closed (with_expiry granted solo)) l.session new) (sym expired)
+              (subst (ShowsSession (with_phase Closed (with_expiry granted solo)) (expiring connected granted).session) (sym still) (expires granted)),
         );
       })
 

@@ -27,7 +27,7 @@ use Rattle.session_desk.specs.Rows.{Rows, HasRow, new_row}
 use Rattle.session_desk.specs.Sessions.{Who}
 use Rattle.session_desk.proofs.Seen.{insert_here}
 use Rattle.session_desk.specs.declared.session.Membership.TheVariants.{NotMember}
-use Rattle.conn_rules.specs.Connecting.{terms_of}
+use Rattle.conn_rules.specs.Connecting.{inflight_alone, no_overrides, terms_of}
 use Rattle.conn_rules.specs.Packets.{accepting}
 use Rattle.conn_supply.specs.declared.reply.Then.TheVariants.{Go}
 use Rattle.conn_supply.specs.declared.reply.Reply.{Reply as ConnReply}
@@ -177,38 +177,38 @@ module _ (old new : Books Held GroupPlace) (all : HasAllPlaces old) where
 
 -- the model from then on
 abbrev pub begun : Connect → SoloState → SoloState
-begun connect solo = record solo { phase = Connected; terms = terms_of solo.max_inflight connect }
+begun connect solo = record solo { phase = Connected; terms = terms_of (inflight_alone solo.max_inflight) connect }
 
 pub record Began (connect : Connect) (solo : SoloState) (phase : ConnPhase GroupPlace) (reply : ConnReply) (new : Broker) : Type 0 where
   pub connected : ConnectedClient GroupPlace
   pub stands : phase ≡ phases.Connected connected
-  pub told : reply ≡ record { packet = Some (accepting false (assigned_to connect.client_identifier)); next = Go }
+  pub told : reply ≡ record { packet = Some (accepting false (assigned_to connect.client_identifier) no_overrides); next = Go }
   pub shows : ShowsClient (begun connect solo) connected new
 
 not_memory : (mid new : Broker) (request : ConnectRequest) (answer : Result (Attached Held GroupPlace) DeskError) (phase : ConnPhase GroupPlace) (reply : ConnReply) → AttachedAs Calls mid request 0 answer phase reply new → answer ≢ Err errors.Memory
 not_memory mid new request answer phase reply does is = absurd (subst (λ a. AttachedAs Calls mid request 0 a phase reply new) is does)
 
 pub attaches : (connect : Connect) (capacity max_inflight : ℕ) (shares : List Share) (now : ℕ) (phase : ConnPhase GroupPlace) (reply : ConnReply) (old new : Broker) → IsNewBroker capacity shares old → FitsBroker capacity shares
-    → EngineAttaches Calls old 0 now (request_of max_inflight connect now) 0 phase reply new → Began connect (opening capacity max_inflight shares) phase reply new
+    → EngineAttaches Calls old 0 now (request_of (inflight_alone max_inflight) connect now) 0 phase reply new → Began connect (opening capacity max_inflight shares) phase reply new
 attaches connect capacity max_inflight shares now phase reply old new is_new fits does =
     let solo = opening capacity max_inflight shares in
     let client = connect.client_identifier in
     let request = asked 0 client connect.clean_start now in
     let mid = does.mid in
-    let first = named old.desk mid.desk is_new.desk client request does.answer refl (not_memory mid new (request_of max_inflight connect now) does.answer phase reply does.answered) does.asked_for.makes in
-    let begins_as = subst (λ a. AttachedAs Calls mid (request_of max_inflight connect now) 0 a phase reply new) first.answer_is does.answered in
+    let first = named old.desk mid.desk is_new.desk client request does.answer refl (not_memory mid new (request_of (inflight_alone max_inflight) connect now) does.answer phase reply does.answered) does.asked_for.makes in
+    let begins_as = subst (λ a. AttachedAs Calls mid (request_of (inflight_alone max_inflight) connect now) 0 a phase reply new) first.answer_is does.answered in
     let same : new ≡ mid = begins_as.0 in
     let accepts = begins_as.1 in
-    let session = opened {P = GroupPlace} (new_session first.who) (terms_of max_inflight connect) in
+    let session = opened {P = GroupPlace} (new_session first.who) (terms_of (inflight_alone max_inflight) connect) in
     let start = opens capacity max_inflight shares old fits is_new in
     let now_shows : ShowsBroker (begun connect solo) [] old = record { routes = start.routes; few = start.few; eight = start.eight; groups = start.groups } in
     let then_shows : ShowsBroker (begun connect solo) [] new =
     subst (ShowsBroker (begun connect solo) []) (sym same) (broker_moved (begun connect solo) [] old mid does.asked_for.routes does.asked_for.groups now_shows) in
     let desk : ShowsDesk NotMember mid.desk = record { not_kicked = first.kicked; places = subst AllFree (sym first.free) is_new.desk.free } in
     record {
-      connected = record { session = session; terms = terms_of max_inflight connect; heard = now };
+      connected = record { session = session; terms = terms_of (inflight_alone max_inflight) connect; heard = now };
       stands = accepts.begun;
-      told = accepts.told ∙ ap (λ (n : Option (List ℕ)). going_on (Some (accepting false n))) first.name;
+      told = accepts.told ∙ ap (λ (n : Option (List ℕ)). going_on (Some (accepting false n no_overrides))) first.name;
       shows = record {
         session = record {
           broker = then_shows;

@@ -301,8 +301,8 @@ module _ (setup : Setup) (connect : Connect) (packets : List Packet) where
   by_answer (first.Refuse refusal) kept = refused (first_reply_as (first.Refuse refusal) (kinds.Connect connect) start) refl refl
   by_answer first.Attach kept =
       let next = (behind_reply (first_reply_as first.Attach (kinds.Connect connect) start)).solo in
-      let same = (asked_ran packets next (λ e. absurd cc)).1 in
       let last = (solo_steps packets next).solo in
+      let same : last.terms.receive_maximum ≡ asked = (asked_ran packets next (λ e. absurd cc)).1 in
       let few : min last.terms.receive_maximum 256 ≤ last.terms.receive_maximum = least_of last.terms.receive_maximum 256 in
       (omega (arith, same, few, kept.room), λ connected. ap (λ (n : ℕ). min n 256) same)
 

@@ -19,7 +19,7 @@ use Rattle.conn_rules.specs.declared.connecting.FirstAnswer.{FirstAnswer}
 use Rattle.conn_rules.specs.declared.connecting.FirstAnswer.TheVariants as first
 use Rattle.conn_rules.specs.declared.publishing.PublishAnswer.{PublishAnswer}
 use Rattle.conn_rules.specs.declared.publishing.PublishAnswer.TheVariants as publishing
-use Rattle.conn_rules.specs.Connecting.{connect_answer, is_given_expiry}
+use Rattle.conn_rules.specs.Connecting.{connect_answer, is_given_expiry, granted_expiry}
 use Rattle.conn_rules.specs.Packets.{disconnect as disconnecting, suback, unsuback}
 use Rattle.conn_rules.specs.Publishing.{publish_answer, message_of}
 use Rattle.conn_rules.specs.Subscribing.{subscribe_refusal, unsubscribe_refusal}
@@ -251,9 +251,9 @@ publish_does (publishing.Offer identifier) publish solo connected =
 disconnect_does : (packet : Packet) (quiet : Quiet packet) (expiry : Option ℕ) (solo : SoloState) → Does packet solo (disconnect_reply expiry solo)
 disconnect_does packet quiet None solo = answers_closing packet quiet solo None
 disconnect_does packet quiet (Some expiry) solo =
-    cond_both (is_given_expiry expiry solo.terms) (closing (Some (disconnecting 0x82)) solo) (closing None (with_expiry expiry solo)) (Does packet solo)
+    cond_both (is_given_expiry expiry solo.terms) (closing (Some (disconnecting 0x82)) solo) (closing None (with_expiry (granted_expiry solo.terms expiry) solo)) (Does packet solo)
     (λ given. answers_closing packet quiet solo (Some (disconnecting 0x82)))
-    (λ other. keeps_all packet quiet solo (closing None (with_expiry expiry solo)) refl refl (inr (refl, refl)))
+    (λ other. keeps_all packet quiet solo (closing None (with_expiry (granted_expiry solo.terms expiry) solo)) refl refl (inr (refl, refl)))
 
 later_does : (packet : Packet) (solo : SoloState) → solo.phase ≡ Connected → Does packet solo (later_reply packet solo)
 later_does (packets.Publish publish) solo connected = publish_does (publish_answer publish) publish solo connected

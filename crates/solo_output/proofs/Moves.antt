@@ -22,7 +22,7 @@ use Rattle.conn_rules.specs.declared.publishing.PublishAnswer.{PublishAnswer}
 use Rattle.conn_rules.specs.declared.publishing.PublishAnswer.TheVariants as publishing
 use Rattle.conn_rules.specs.declared.subscribing.EntryAnswer.{EntryAnswer}
 use Rattle.conn_rules.specs.declared.subscribing.EntryAnswer.TheVariants as entries
-use Rattle.conn_rules.specs.Connecting.{first_answer, terms_of, is_given_expiry}
+use Rattle.conn_rules.specs.Connecting.{first_answer, inflight_alone, terms_of, is_given_expiry, granted_expiry}
 use Rattle.conn_rules.specs.Packets.{disconnect as disconnecting}
 use Rattle.conn_rules.specs.Publishing.{publish_answer, message_of}
 use Rattle.conn_rules.specs.Subscribing.{entry_answer, subscribe_refusal, unsubscribe_refusal}
@@ -48,7 +48,7 @@ MayJoin (Leaving own) slot = own ≡ slot
 pub record Ways (R : SoloState → SoloState → Type 0) : Type 0 where
   pub stays : (solo : SoloState) → R solo solo
   pub goes_on : (one two three : SoloState) → R one two → R two three → R one three
-  pub connects : (connect : Connect) (solo : SoloState) → solo.phase ≡ Unconnected → R solo (record solo { phase = Connected; terms = terms_of solo.max_inflight connect })
+  pub connects : (connect : Connect) (solo : SoloState) → solo.phase ≡ Unconnected → R solo (record solo { phase = Connected; terms = terms_of (inflight_alone solo.max_inflight) connect })
   pub closes : (solo : SoloState) → R solo (with_phase Closed solo)
   pub expires : (expiry : ℕ) (solo : SoloState) → R solo (with_expiry expiry solo)
   pub binds : (share : Share) (solo : SoloState) → slot_of share.text (shares_of solo.groups) ≡ None → length solo.groups < most_routes → R solo (with_share share solo)
@@ -147,9 +147,10 @@ module _ (R : SoloState → SoloState → Type 0) (ways : Ways R) where
   pub disconnects : (expiry : Option ℕ) (solo : SoloState) → R solo (disconnect_reply expiry solo).solo
   disconnects None solo = ways.closes solo
   disconnects (Some expiry) solo =
-      cond_both (is_given_expiry expiry solo.terms) (closing (Some (disconnecting 0x82)) solo) (closing None (with_expiry expiry solo)) (λ reply. R solo reply.solo)
+      let granted = granted_expiry solo.terms expiry in
+      cond_both (is_given_expiry expiry solo.terms) (closing (Some (disconnecting 0x82)) solo) (closing None (with_expiry granted solo)) (λ reply. R solo reply.solo)
       (λ given. ways.closes solo)
-      (λ other. ways.goes_on solo (with_expiry expiry solo) (with_phase Closed (with_expiry expiry solo)) (ways.expires expiry solo) (ways.closes (with_expiry expiry solo)))
+      (λ other. ways.goes_on solo (with_expiry granted solo) (with_phase Closed (with_expiry granted solo)) (ways.expires granted solo) (ways.closes (with_expiry granted solo)))
 
   attaches : (packet : Packet) (solo : SoloState) → solo.phase ≡ Unconnected → R solo (attach_reply packet solo).solo
   attaches (packets.Connect connect) solo is = ways.connects connect solo is

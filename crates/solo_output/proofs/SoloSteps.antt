@@ -8,8 +8,9 @@ use Rattle.mqtt_packet.specs.declared.packet.Packet.{Packet}
 use Rattle.mqtt_topic.specs.Names.{Share}
 use Rattle.conn_rules.specs.declared.connecting.FirstAnswer.{FirstAnswer}
 use Rattle.conn_rules.specs.declared.connecting.FirstAnswer.TheVariants as first
-use Rattle.conn_rules.specs.Connecting.{first_answer}
+use Rattle.conn_rules.specs.Connecting.{first_answer, inflight_alone}
 use Rattle.conn_rules.specs.Faults.{fault_refusal}
+use Rattle.conn_rules.specs.declared.terms.ClientLimits.{ClientLimits}
 use Rattle.conn_supply.specs.declared.reply.Then.{Then}
 use Rattle.conn_supply.specs.declared.reply.Then.TheVariants.{Go, Close}
 use Rattle.conn_supply.specs.declared.reply.Reply.{Reply as ConnReply}
@@ -19,8 +20,9 @@ use Rattle.conn_engine.specs.declared.phase.ConnectedClient.{ConnectedClient}
 use Rattle.conn_engine.specs.declared.phase.Opening.{Opening}
 use Rattle.conn_engine.specs.declared.phase.ConnPhase.{ConnPhase}
 use Rattle.conn_engine.specs.declared.phase.ConnPhase.TheVariants as phases
+use Rattle.conn_engine.specs.Connecting.{Attaches}
 use Rattle.conn_engine.specs.Ending.{Parts}
-use Rattle.conn_engine.specs.Step.{AnswersFirst, AnswersPacket, AnswersUnlessKicked, Concludes, IsRefusedIf, Reacts, Hands, Steps, hearing, after_hand_out}
+use Rattle.conn_engine.specs.Step.{AnswersFirst, AnswersPacket, AnswersUnlessKicked, Concludes, IsRefusedIf, Reacts, Hands, Steps, hearing, after_hand_out, request_of}
 use Rattle.local_group.specs.Groups.{Group}
 use Rattle.local_broker.specs.Places.{GroupPlace}
 use Rattle.local_broker.specs.Broker.{Broker, IsNewBroker}
@@ -107,42 +109,44 @@ refused_if None phase told does = (does.over, ap (λ (t : ConnReply). t.packet) 
 refused_if (Some refusal) phase told does = (does.over, ap (λ (t : ConnReply). t.packet) does.told)
 
 -- ---- before the CONNECT
-module _ (capacity : ℕ) (opened : Opening) (shares : List Share) (old : Broker) (is_new : IsNewBroker capacity shares old) (fits : FitsBroker capacity shares) where
-  ended : ShowsEnd (opening capacity opened.max_inflight shares) old
-  ended = ends_idle (opening capacity opened.max_inflight shares) old (opens capacity opened.max_inflight shares old fits is_new)
+module _ (capacity : ℕ) (opened : Opening) (shares : List Share) (old : Broker) (is_new : IsNewBroker capacity shares old) (fits : FitsBroker capacity shares)
+    (alone : opened.limits ≡ inflight_alone opened.limits.max_inflight) where
+  ended : ShowsEnd (opening capacity opened.limits.max_inflight shares) old
+  ended = ends_idle (opening capacity opened.limits.max_inflight shares) old (opens capacity opened.limits.max_inflight shares old fits is_new)
 
   closed_first : (answer : Option Packet) (phase : ConnPhase GroupPlace) (told : ConnReply) (new : Broker) → phase ≡ phases.Ended → told ≡ record { packet = answer; next = Close } → new ≡ old
-      → Reacted (record { packet = answer; solo = with_phase Closed (opening capacity opened.max_inflight shares) }) phase told new
+      → Reacted (record { packet = answer; solo = with_phase Closed (opening capacity opened.limits.max_inflight shares) }) phase told new
   closed_first answer phase told new over is same =
       record {
         packet = ap (λ (t : ConnReply). t.packet) is;
-        stands = inr (over, ap (λ (t : ConnReply). t.next) is, refl, subst (ShowsEnd (with_phase Closed (opening capacity opened.max_inflight shares))) (sym same) (record { routes = ended.routes; told = λ slot group there. told_in slot group (ended.told slot group there) }));
+        stands = inr (over, ap (λ (t : ConnReply). t.next) is, refl, subst (ShowsEnd (with_phase Closed (opening capacity opened.limits.max_inflight shares))) (sym same) (record { routes = ended.routes; told = λ slot group there. told_in slot group (ended.told slot group there) }));
       }
     where
-      told_in : (slot : ℕ) (group : Group) → ReportsFates slot (opening capacity opened.max_inflight shares) group → ReportsFates slot (with_phase Closed (opening capacity opened.max_inflight shares)) group
+      told_in : (slot : ℕ) (group : Group) → ReportsFates slot (opening capacity opened.limits.max_inflight shares) group → ReportsFates slot (with_phase Closed (opening capacity opened.limits.max_inflight shares)) group
       told_in slot group is_told = record { entries = is_told.entries; returned = is_told.returned; ends = is_told.ends; fates = is_told.fates }
 
-  first_packet : (answer : FirstAnswer) (packet : Packet) (phase : ConnPhase GroupPlace) (told : ConnReply) (new : Broker) → AnswersFirst Calls slot_at answer old 0 opened.max_inflight 0 packet phase told new
-      → Reacted (first_reply_as answer packet (opening capacity opened.max_inflight shares)) phase told new
+  first_packet : (answer : FirstAnswer) (packet : Packet) (phase : ConnPhase GroupPlace) (told : ConnReply) (new : Broker) → AnswersFirst Calls slot_at answer old 0 opened.limits 0 packet phase told new
+      → Reacted (first_reply_as answer packet (opening capacity opened.limits.max_inflight shares)) phase told new
   first_packet first.Close packet phase told new does = closed_first None phase told new does.0.over does.0.told does.1
   first_packet (first.Refuse refusal) packet phase told new does = closed_first _ phase told new does.0.over does.0.told does.1
   first_packet first.Attach packet phase told new (connect, is, does) =
-      let b = attaches connect capacity opened.max_inflight shares 0 phase told old new is_new fits does in
-      subst (λ (p : Packet). Reacted (attach_reply p (opening capacity opened.max_inflight shares)) phase told new) (sym is)
+      let asks = subst (λ (limits : ClientLimits). Attaches Calls old 0 0 (request_of limits connect 0) 0 phase told new) alone does in
+      let b = attaches connect capacity opened.limits.max_inflight shares 0 phase told old new is_new fits asks in
+      subst (λ (p : Packet). Reacted (attach_reply p (opening capacity opened.limits.max_inflight shares)) phase told new) (sym is)
       (record { packet = ap (λ (t : ConnReply). t.packet) b.told; stands = inl (b.connected, b.stands, ap (λ (t : ConnReply). t.next) b.told, b.shows) })
 
   pub first_step : (packet : Packet) (all : List Packet) (next : Then) (phase : ConnPhase GroupPlace) (new : Broker)
-      → Steps Calls slot_at old 0 (phases.Unconnected opened) 0 (inputs.Packet packet) all next phase new → Stepped (solo_step packet (opening capacity opened.max_inflight shares)) all next phase new
+      → Steps Calls slot_at old 0 (phases.Unconnected opened) 0 (inputs.Packet packet) all next phase new → Stepped (solo_step packet (opening capacity opened.limits.max_inflight shares)) all next phase new
   first_step packet all next phase new does =
       let got = first_packet (first_answer packet) packet does.between does.reply does.mid does.reacts in
-      stepped (first_reply packet (opening capacity opened.max_inflight shares)) does.between phase does.reply does.mid new does.sent all next got.packet does.hands does.written does.followed got.stands
+      stepped (first_reply packet (opening capacity opened.limits.max_inflight shares)) does.between phase does.reply does.mid new does.sent all next got.packet does.hands does.written does.followed got.stands
 
   -- the last step of a client that never connected
   pub first_last : (fault : Option StreamFault) (input : Input) (all : List Packet) (next : Then) (phase : ConnPhase GroupPlace) (new : Broker) → IsLast fault input
-      → Steps Calls slot_at old 0 (phases.Unconnected opened) 0 input all next phase new → Parted fault (opening capacity opened.max_inflight shares) all phase new
+      → Steps Calls slot_at old 0 (phases.Unconnected opened) 0 input all next phase new → Parted fault (opening capacity opened.limits.max_inflight shares) all phase new
   first_last None inputs.EndOfInput all next phase new is does =
       let out = last_out None does.between phase does.reply does.mid new does.sent all does.reacts.0.over (ap (λ (t : ConnReply). t.packet) does.reacts.0.told) does.hands does.written in
-      record { sent_are = out.0; over = out.1; shows = subst (ShowsEnd (opening capacity opened.max_inflight shares)) (sym (out.2 ∙ does.reacts.1)) ended }
+      record { sent_are = out.0; over = out.1; shows = subst (ShowsEnd (opening capacity opened.limits.max_inflight shares)) (sym (out.2 ∙ does.reacts.1)) ended }
   first_last None (inputs.Packet packet) all next phase new is does = absurd is
   first_last None (inputs.Fault fault) all next phase new is does = absurd is
   first_last None inputs.Tick all next phase new is does = absurd is
@@ -151,7 +155,7 @@ module _ (capacity : ℕ) (opened : Opening) (shares : List Share) (old : Broker
       let its = subst (λ (i : Input). Steps Calls slot_at old 0 (phases.Unconnected opened) 0 i all next phase new) is does in
       let refused = refused_if (fault_refusal fault) its.between its.reply its.reacts.0 in
       let out = last_out (refused_by (fault_refusal fault)) its.between phase its.reply its.mid new its.sent all refused.0 refused.1 its.hands its.written in
-      record { sent_are = out.0; over = out.1; shows = subst (ShowsEnd (opening capacity opened.max_inflight shares)) (sym (out.2 ∙ its.reacts.1)) ended }
+      record { sent_are = out.0; over = out.1; shows = subst (ShowsEnd (opening capacity opened.limits.max_inflight shares)) (sym (out.2 ∙ its.reacts.1)) ended }
 
 -- ---- a client that has its session
 module _ (solo : SoloState) (connected : ConnectedClient GroupPlace) (old : Broker) (shows : ShowsClient solo connected old) where

@@ -19,7 +19,7 @@ use Rattle.conn_rules.specs.declared.connecting.FirstAnswer.{FirstAnswer}
 use Rattle.conn_rules.specs.declared.connecting.FirstAnswer.TheVariants as first
 use Rattle.conn_rules.specs.declared.publishing.PublishAnswer.{PublishAnswer}
 use Rattle.conn_rules.specs.declared.publishing.PublishAnswer.TheVariants as publishing
-use Rattle.conn_rules.specs.Connecting.{first_answer, is_given_expiry}
+use Rattle.conn_rules.specs.Connecting.{first_answer, is_given_expiry, granted_expiry}
 use Rattle.conn_rules.specs.HandOuts.{is_discarded}
 use Rattle.conn_rules.specs.Packets.{job, disconnect as disconnecting}
 use Rattle.conn_rules.specs.Publishing.{publish_answer}
@@ -107,7 +107,7 @@ unsubscribe_quiet None unsubscribe solo = refl
 disconnect_quiet : (expiry : Option ℕ) (solo : SoloState) → published (option_to_list (disconnect_reply expiry solo).packet) ≡ []
 disconnect_quiet None solo = refl
 disconnect_quiet (Some expiry) solo =
-    cond_both (is_given_expiry expiry solo.terms) (closing (Some (disconnecting 0x82)) solo) (closing None (with_expiry expiry solo)) (λ r. published (option_to_list r.packet) ≡ []) (λ given. refl) (λ other. refl)
+    cond_both (is_given_expiry expiry solo.terms) (closing (Some (disconnecting 0x82)) solo) (closing None (with_expiry (granted_expiry solo.terms expiry) solo)) (λ r. published (option_to_list r.packet) ≡ []) (λ given. refl) (λ other. refl)
 
 later_answers : (packet : Packet) (solo : SoloState) → Answers packet solo (λ slot. taken_of_packet packet slot solo) (later_reply packet solo)
 later_answers (kinds.Publish publish) solo =

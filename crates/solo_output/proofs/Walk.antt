@@ -18,6 +18,7 @@ use Rattle.mqtt_wire.proofs.StreamLaws.{exists_reading}
 use Rattle.mqtt_wire.proofs.PieceLaws.{faulty_stays}
 use Rattle.mqtt_topic.specs.Names.{Share}
 use Rattle.group_jobs.specs.Stamps.{Held}
+use Rattle.conn_rules.specs.Connecting.{inflight_alone}
 use Rattle.conn_supply.specs.declared.reply.Then.{Then}
 use Rattle.conn_supply.specs.declared.reply.Then.TheVariants.{Go, Close}
 use Rattle.conn_engine.specs.declared.input.Input.{Input}
@@ -59,7 +60,8 @@ sent_in said = flat_map (λ one. one.packets) said
 -- the connection has not begun, or goes on with its session
 abbrev pub Shown : ℕ → List Share → SoloState → ConnPhase GroupPlace → Broker → Type 0
 Shown capacity shares solo phase b =
-    ((opened : Opening) × (phase ≡ phases.Unconnected opened) × (solo ≡ opening capacity opened.max_inflight shares) × IsNewBroker capacity shares b)
+    ((opened : Opening) × (phase ≡ phases.Unconnected opened) × (solo ≡ opening capacity opened.limits.max_inflight shares) × IsNewBroker capacity shares b
+    × (opened.limits ≡ inflight_alone opened.limits.max_inflight))
     ⊎ ((connected : ConnectedClient GroupPlace) × (phase ≡ phases.Connected connected) × ShowsClient solo connected b)
 
 -- what is sent from a model on is that of the packets and the fault that a stream reads as, and the groups have the fates of the model then
@@ -136,22 +138,22 @@ module _ (capacity : ℕ) (shares : List Share) (fits : FitsBroker capacity shar
   -- ---- a step
   stepped : (solo : SoloState) (phase : ConnPhase GroupPlace) (old : Broker) (packet : Packet) (all : List Packet) (next : Then) (phase' : ConnPhase GroupPlace) (new : Broker) → Shown capacity shares solo phase old
       → Steps Calls slot_at old 0 phase 0 (inputs.Packet packet) all next phase' new → Stepped (solo_step packet solo) all next phase' new
-  stepped solo phase old packet all next phase' new (inl (opened, is, begins, is_new)) does =
+  stepped solo phase old packet all next phase' new (inl (opened, is, begins, is_new, alone)) does =
       subst (λ (s : SoloState). Stepped (solo_step packet s) all next phase' new) (sym begins)
-      (first_step capacity opened shares old is_new fits packet all next phase' new (subst (λ (s : ConnPhase GroupPlace). Steps Calls slot_at old 0 s 0 (inputs.Packet packet) all next phase' new) is does))
+      (first_step capacity opened shares old is_new fits alone packet all next phase' new (subst (λ (s : ConnPhase GroupPlace). Steps Calls slot_at old 0 s 0 (inputs.Packet packet) all next phase' new) is does))
   stepped solo phase old packet all next phase' new (inr (connected, is, shows)) does =
       later_step solo connected old shows packet all next phase' new (subst (λ (s : ConnPhase GroupPlace). Steps Calls slot_at old 0 s 0 (inputs.Packet packet) all next phase' new) is does)
 
   parted : (solo : SoloState) (phase : ConnPhase GroupPlace) (old : Broker) (fault : Option StreamFault) (input : Input) (all : List Packet) (next : Then) (phase' : ConnPhase GroupPlace) (new : Broker) → Shown capacity shares solo phase old
       → IsLast fault input → Steps Calls slot_at old 0 phase 0 input all next phase' new → Parted fault solo all phase' new
-  parted solo phase old fault input all next phase' new (inl (opened, is, begins, is_new)) ends does =
+  parted solo phase old fault input all next phase' new (inl (opened, is, begins, is_new, alone)) ends does =
       subst (λ (s : SoloState). Parted fault s all phase' new) (sym begins)
-      (first_last capacity opened shares old is_new fits fault input all next phase' new ends (subst (λ (s : ConnPhase GroupPlace). Steps Calls slot_at old 0 s 0 input all next phase' new) is does))
+      (first_last capacity opened shares old is_new fits alone fault input all next phase' new ends (subst (λ (s : ConnPhase GroupPlace). Steps Calls slot_at old 0 s 0 input all next phase' new) is does))
   parted solo phase old fault input all next phase' new (inr (connected, is, shows)) ends does =
       later_last solo connected old shows fault input all next phase' new ends (subst (λ (s : ConnPhase GroupPlace). Steps Calls slot_at old 0 s 0 input all next phase' new) is does)
 
   not_waiting : (solo : SoloState) (phase : ConnPhase GroupPlace) (b : Broker) → Shown capacity shares solo phase b → IsWaiting phase → ⊥
-  not_waiting solo phase b (inl (opened, is, begins, is_new)) waits = absurd (subst IsWaiting is waits)
+  not_waiting solo phase b (inl (opened, is, begins, is_new, alone)) waits = absurd (subst IsWaiting is waits)
   not_waiting solo phase b (inr (connected, is, shows)) waits = absurd (subst IsWaiting is waits)
 
   -- ---- all that is whole is read
@@ -284,12 +286,12 @@ open_is solo entries b shows =
 
 module _ (capacity : ℕ) (shares : List Share) (fits : FitsBroker capacity shares) where
   shown_open : (solo : SoloState) (phase : ConnPhase GroupPlace) (b : Broker) → Shown capacity shares solo phase b → is_open b ≡ true
-  shown_open solo phase b (inl (opened, is, begins, is_new)) = open_is (opening capacity opened.max_inflight shares) [] b (opens capacity opened.max_inflight shares b fits is_new)
+  shown_open solo phase b (inl (opened, is, begins, is_new, alone)) = open_is (opening capacity opened.limits.max_inflight shares) [] b (opens capacity opened.limits.max_inflight shares b fits is_new)
   shown_open solo phase b (inr (connected, is, shows)) = open_is solo connected.session.window.owed b shows.session.broker
 
   -- a client that goes on is kept
   kept_shown : (solo : SoloState) (client : ClientState GroupPlace) (b : Broker) → Shown capacity shares solo client.conn.phase b → kept client ≡ Some client
-  kept_shown solo client b (inl (opened, is, begins, is_new)) = ap (λ (s : ConnPhase GroupPlace). kept_as s client) is
+  kept_shown solo client b (inl (opened, is, begins, is_new, alone)) = ap (λ (s : ConnPhase GroupPlace). kept_as s client) is
   kept_shown solo client b (inr (connected, is, shows)) = ap (λ (s : ConnPhase GroupPlace). kept_as s client) is
 
   kept_ended : (client : ClientState GroupPlace) → client.conn.phase ≡ phases.Ended → kept client ≡ None
@@ -359,9 +361,9 @@ module _ (capacity : ℕ) (shares : List Share) (fits : FitsBroker capacity shar
       let cell : slice_get first.clients 0 ≡ Some None = ap (λ (l : Clients). slice_get l 0) none ∙ first_none 64 (omega arith) in
       let got = in_cell first.clients mid.clients _ None cell does.0 in
       let clock' = clock_at_once first mid clock happens.clock in
-      let opened : Opening = record { at = mid.clock; max_inflight = first.max_inflight } in
+      let opened : Opening = record { at = mid.clock; limits = inflight_alone first.max_inflight } in
       let client : ClientState GroupPlace = arrived (record { number = 0; latest = mid.clock; phase = phases.Unconnected opened }) in
       let there : slice_get mid.clients 0 ≡ Some (Some client) = got.2 ∙ ap (λ (c : Option (ClientState GroupPlace)). Some c) got.1 in
       let sent : sent_in said ≡ sent_in later = ap sent_in (all ∙ ap (λ (l : List StepOutput). l ++ later) does.2) in
       subst (λ (l : List Packet). Concluded (opening capacity first.max_inflight shares) (whole pieces) l last.broker) (sym sent)
-      (walk pieces (opening capacity first.max_inflight shares) client mid last later there clock' refl clock' refl no_byte bytes (inl (opened, refl, refl, subst (IsNewBroker capacity shares) (sym does.1) is_new)) others)
+      (walk pieces (opening capacity first.max_inflight shares) client mid last later there clock' refl clock' refl no_byte bytes (inl (opened, refl, refl, subst (IsNewBroker capacity shares) (sym does.1) is_new, refl)) others)

@@ -48,7 +48,7 @@ pub record SoloState : Type 0 where
 -- 3.1.2: what holds before a CONNECT: no keep alive, the greatest Receive Maximum, packets of any size, and a session that ends with
 -- its connection
 abbrev pub default_terms : Terms
-default_terms = record { receive_maximum = 65535; session_expiry_interval = 0; keep_alive = 0; maximum_packet_size = None }
+default_terms = record { receive_maximum = 65535; session_expiry_interval = 0; keep_alive = 0; maximum_packet_size = None; max_expiry = None }
 
 -- a share, whose group accepted nothing yet
 abbrev pub bound : Share → Bound

@@ -8,7 +8,7 @@ use Rattle.mqtt_packet.specs.declared.packet.Packet.{Packet}
 use Rattle.mqtt_packet.specs.declared.packet.Packet.TheVariants as packets
 use Rattle.conn_rules.specs.declared.connecting.FirstAnswer.{FirstAnswer}
 use Rattle.conn_rules.specs.declared.connecting.FirstAnswer.TheVariants as first
-use Rattle.conn_rules.specs.Connecting.{first_answer, terms_of, is_given_expiry}
+use Rattle.conn_rules.specs.Connecting.{first_answer, inflight_alone, no_overrides, terms_of, is_given_expiry, granted_expiry}
 use Rattle.conn_rules.specs.Faults.{fault_code, fault_refusal}
 use Rattle.conn_rules.specs.Packets.{accepting, refusing, disconnect}
 use Rattle.solo_output.specs.Groups.{SoloState, Phase, with_puback}
@@ -25,7 +25,7 @@ assigned_to (byte ∷ bytes) = None
 -- 3.2: a new session begins, as the CONNECT asks
 abbrev pub begin : Connect → SoloState → Reply
 begin connect solo =
-    answering (accepting false (assigned_to connect.client_identifier)) (record solo { phase = Connected; terms = terms_of solo.max_inflight connect })
+    answering (accepting false (assigned_to connect.client_identifier) no_overrides) (record solo { phase = Connected; terms = terms_of (inflight_alone solo.max_inflight) connect })
 
 -- what attaches is a CONNECT
 abbrev pub attach_reply : Packet → SoloState → Reply
@@ -45,11 +45,11 @@ first_reply packet solo = first_reply_as (first_answer packet) packet solo
 abbrev pub with_expiry : ℕ → SoloState → SoloState
 with_expiry expiry solo = record solo { terms = record solo.terms { session_expiry_interval = expiry } }
 
--- 3.14.2.2.2: an expiry at the end takes the place of the session's, but a session that ends with its connection may not be given one
+-- 3.14.2.2.2: an expiry at the end takes the place of the session's, within what its terms allow, which is any here; but a session that ends with its connection may not be given one
 abbrev pub disconnect_reply : Option ℕ → SoloState → Reply
 disconnect_reply None solo = closing None solo
 disconnect_reply (Some expiry) solo =
-    if is_given_expiry expiry solo.terms then closing (Some (disconnect 0x82)) solo else closing None (with_expiry expiry solo)
+    if is_given_expiry expiry solo.terms then closing (Some (disconnect 0x82)) solo else closing None (with_expiry (granted_expiry solo.terms expiry) solo)
 
 -- the packets that a client sends which has its session; one that it has no business to send, a second CONNECT among it, closes the
 -- connection with 82 (3.1, 4.13)

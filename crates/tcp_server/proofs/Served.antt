@@ -17,36 +17,37 @@ use Rattle.broker_groups.specs.Brokers.{no_group}
 use Rattle.broker_groups.specs.Openings.{IsBrokerOpened, named_by, or_none}
 use Rattle.group_jobs.specs.declared.report.Report.{Report}
 use Rattle.group_queue.specs.declared.error.FinishError.{FinishError}
+use Rattle.conn_rules.specs.declared.terms.ClientLimits.{ClientLimits}
 use Rattle.tcp_server.specs.Lines.{report_of, EndsBy}
 use Rattle.tcp_server.specs.Reporting.{AreReports, AreReportsAt, HaveCapacity}
 use Rattle.tcp_server.specs.Serving.{WritesAll, BeginsToWrite, EndsUnreported, IsServed}
 
 -- where the reports were written, that is what is written by how the broker ends
-pub whole : (line : List ℕ) (capacity workers max_inflight : ℕ) (given : List Share) (result : Result (Unit {0}) RunError) (old new : Option (List ℕ)) → WritesAll line capacity workers max_inflight given result old new
-    → IsServed line capacity workers max_inflight given result old new
-whole line capacity workers max_inflight given (Ok done) old new written = written
-whole line capacity workers max_inflight given (Err ReadFailed) old new written = written
-whole line capacity workers max_inflight given (Err TooManyReads) old new written = absurd written.reports.ends
-whole line capacity workers max_inflight given (Err (WriteFailed fault)) old new written = absurd written.reports.ends
-whole line capacity workers max_inflight given (Err (Network fault)) old new written = inr written
-whole line capacity workers max_inflight given (Err Memory) old new written = inr written
-whole line capacity workers max_inflight given (Err TooFewDescriptors) old new written = absurd written.reports.ends
-whole line capacity workers max_inflight given (Err Unfinished) old new written = written
-whole line capacity workers max_inflight given (Err (Line number)) old new written = absurd written.reports.ends
+pub whole : (line : List ℕ) (capacity workers : ℕ) (limits : ClientLimits) (given : List Share) (result : Result (Unit {0}) RunError) (old new : Option (List ℕ)) → WritesAll line capacity workers limits given result old new
+    → IsServed line capacity workers limits given result old new
+whole line capacity workers limits given (Ok done) old new written = written
+whole line capacity workers limits given (Err ReadFailed) old new written = written
+whole line capacity workers limits given (Err TooManyReads) old new written = absurd written.reports.ends
+whole line capacity workers limits given (Err (WriteFailed fault)) old new written = absurd written.reports.ends
+whole line capacity workers limits given (Err (Network fault)) old new written = inr written
+whole line capacity workers limits given (Err Memory) old new written = inr written
+whole line capacity workers limits given (Err TooFewDescriptors) old new written = absurd written.reports.ends
+whole line capacity workers limits given (Err Unfinished) old new written = written
+whole line capacity workers limits given (Err (Line number)) old new written = absurd written.reports.ends
 
-pub all : {X : Type 0} (line : List ℕ) (capacity workers max_inflight : ℕ) (given : List Share) (end : Result X RunError) (result : Result (Unit {0}) RunError) (old mid new : Option (List ℕ)) (text : List ℕ)
-    → ((reports : List (Result Report FinishError)) → EndsBy end reports → EndsBy result reports) → AreReportsAt end capacity workers max_inflight given text → Appends old mid line → Appends mid new text
-    → IsServed line capacity workers max_inflight given result old new
-all line capacity workers max_inflight given end result old mid new text how told first second =
-    whole line capacity workers max_inflight given result old new (record {
+pub all : {X : Type 0} (line : List ℕ) (capacity workers : ℕ) (limits : ClientLimits) (given : List Share) (end : Result X RunError) (result : Result (Unit {0}) RunError) (old mid new : Option (List ℕ)) (text : List ℕ)
+    → ((reports : List (Result Report FinishError)) → EndsBy end reports → EndsBy result reports) → AreReportsAt end capacity workers limits given text → Appends old mid line → Appends mid new text
+    → IsServed line capacity workers limits given result old new
+all line capacity workers limits given end result old mid new text how told first second =
+    whole line capacity workers limits given result old new (record {
       text = text;
       reports = record { reports = told.reports; ends = how (map report_of told.reports.answers) told.ends };
       written = Appends-then old mid new line text first second;
     })
 
-pub begun : (line : List ℕ) (capacity workers max_inflight : ℕ) (given : List Share) (old mid new : Option (List ℕ)) (text : List ℕ) → AreReports capacity workers max_inflight given text → Appends old mid line → Begins mid new text
-    → BeginsToWrite line capacity workers max_inflight given old new
-begun line capacity workers max_inflight given old mid new text reports first second = record {
+pub begun : (line : List ℕ) (capacity workers : ℕ) (limits : ClientLimits) (given : List Share) (old mid new : Option (List ℕ)) (text : List ℕ) → AreReports capacity workers limits given text → Appends old mid line → Begins mid new text
+    → BeginsToWrite line capacity workers limits given old new
+begun line capacity workers limits given old mid new text reports first second = record {
   text = text;
   reports = reports;
   begun = record {
@@ -57,15 +58,15 @@ begun line capacity workers max_inflight given old mid new text reports first se
   };
 }
 
-pub unreported : (line : List ℕ) (capacity workers max_inflight : ℕ) (given : List Share) (error : RunError) (old new : Option (List ℕ)) → EndsUnreported line error old new → IsServed line capacity workers max_inflight given (Err error) old new
-unreported line capacity workers max_inflight given ReadFailed old new ends = absurd ends
-unreported line capacity workers max_inflight given TooManyReads old new ends = absurd ends
-unreported line capacity workers max_inflight given (WriteFailed fault) old new ends = inl ends
-unreported line capacity workers max_inflight given (Network fault) old new ends = absurd ends
-unreported line capacity workers max_inflight given Memory old new ends = inl ends
-unreported line capacity workers max_inflight given TooFewDescriptors old new ends = ends
-unreported line capacity workers max_inflight given Unfinished old new ends = absurd ends
-unreported line capacity workers max_inflight given (Line number) old new ends = absurd ends
+pub unreported : (line : List ℕ) (capacity workers : ℕ) (limits : ClientLimits) (given : List Share) (error : RunError) (old new : Option (List ℕ)) → EndsUnreported line error old new → IsServed line capacity workers limits given (Err error) old new
+unreported line capacity workers limits given ReadFailed old new ends = absurd ends
+unreported line capacity workers limits given TooManyReads old new ends = absurd ends
+unreported line capacity workers limits given (WriteFailed fault) old new ends = inl ends
+unreported line capacity workers limits given (Network fault) old new ends = absurd ends
+unreported line capacity workers limits given Memory old new ends = inl ends
+unreported line capacity workers limits given TooFewDescriptors old new ends = ends
+unreported line capacity workers limits given Unfinished old new ends = absurd ends
+unreported line capacity workers limits given (Line number) old new ends = absurd ends
 
 pub no_memory : (line : List ℕ) (error : RunError) (known : Option (List ℕ)) → error ≡ Memory → EndsUnreported line error known known
 no_memory line error known is = subst (λ e. EndsUnreported line e known known) (sym is) (inl (Keeps-refl known))
@@ -90,6 +91,6 @@ pub same_capacity : (group : ℕ → GroupId) (capacity : ℕ) → HaveCapacity 
 same_capacity group capacity have slot few = have slot few ∙ sym (have 0 (omega arith))
 
 -- and so have those of its reports
-pub of_capacity : {X : Type 0} (end : Result X RunError) (group : ℕ → GroupId) (capacity workers max_inflight : ℕ) (given : List Share) (text : List ℕ) → HaveCapacity group capacity
-    → AreReportsAt end (group 0).capacity workers max_inflight given text → AreReportsAt end capacity workers max_inflight given text
-of_capacity end group capacity workers max_inflight given text have reports = subst (λ n. AreReportsAt end n workers max_inflight given text) (have 0 (omega arith)) reports
+pub of_capacity : {X : Type 0} (end : Result X RunError) (group : ℕ → GroupId) (capacity workers : ℕ) (limits : ClientLimits) (given : List Share) (text : List ℕ) → HaveCapacity group capacity
+    → AreReportsAt end (group 0).capacity workers limits given text → AreReportsAt end capacity workers limits given text
+of_capacity end group capacity workers limits given text have reports = subst (λ n. AreReportsAt end n workers limits given text) (have 0 (omega arith)) reports

@@ -7,6 +7,7 @@ use Rattle.group_jobs.specs.declared.report.Report.{Report}
 use Rattle.group_queue.specs.Ports.{GroupId}
 use Rattle.group_queue.specs.declared.finish.Unfinished.{Unfinished}
 use Rattle.group_queue.specs.declared.witness.Nobody.{Nobody}
+use Rattle.conn_rules.specs.declared.terms.ClientLimits.{ClientLimits}
 use Rattle.tcp_edge.specs.Sockets.{SocketState}
 use Rattle.tcp_server.specs.declared.client_stream.ClientStream.{ClientStream}
 use Rattle.worker_connections.specs.declared.served.ServedCounts.{ServedCounts}
@@ -28,9 +29,9 @@ unknown connection = None
 abbrev pub HaveCapacity : (ℕ → GroupId) → ℕ → Type 0
 HaveCapacity group capacity = (slot : ℕ) → slot < 8 → (group slot).capacity ≡ capacity
 
--- A broker with groups of this capacity, so many workers and this limit for each connection kept the headline to its end, and these are the lines of the reports that its groups gave: of each slot to which a share is bound, as each
+-- A broker with groups of this capacity, so many workers and these limits for each connection kept the headline to its end, and these are the lines of the reports that its groups gave: of each slot to which a share is bound, as each
 -- that was there from the start is, unless all eight slots are bound, and of whose group there is a report.
-pub record AreReports (capacity workers max_inflight : ℕ) (given : List Share) (text : List ℕ) : Type 0 where
+pub record AreReports (capacity workers : ℕ) (limits : ClientLimits) (given : List Share) (text : List ℕ) : Type 0 where
   pub group : ℕ → GroupId
   pub room : HaveCapacity group capacity
   pub shares : List Share
@@ -41,11 +42,11 @@ pub record AreReports (capacity workers max_inflight : ℕ) (given : List Share)
   pub came : List Connection
   pub served : List ServedCounts
   pub poller_calls : List (Option (List (PollerCall Connection)))
-  pub headline : KeepsTheHeadline group all_seen (λ (connection : Connection). connection.counts) unknown unknown workers max_inflight came before after shares answers strangers served poller_calls
+  pub headline : KeepsTheHeadline group all_seen (λ (connection : Connection). connection.counts) unknown unknown workers limits came before after shares answers strangers served poller_calls
   pub bound : All (IsBoundIn shares) given
   pub lines : text ≡ lines_of shares (map report_of answers)
 
 -- the same of a broker that ends so, as the reports of its groups decide
-pub record AreReportsAt {X : Type 0} (end : Result X RunError) (capacity workers max_inflight : ℕ) (given : List Share) (text : List ℕ) : Type 0 where
-  pub reports : AreReports capacity workers max_inflight given text
+pub record AreReportsAt {X : Type 0} (end : Result X RunError) (capacity workers : ℕ) (limits : ClientLimits) (given : List Share) (text : List ℕ) : Type 0 where
+  pub reports : AreReports capacity workers limits given text
   pub ends : EndsBy end (map report_of reports.answers)

@@ -58,7 +58,7 @@ pub(crate) fn attend<
 ) -> Result<Reported, RunError>
     requires capacity { HaveCapacity B.group (B.group 0).capacity }
     requires setup { length setup.unused_pollers.items ≡ broker.workers }
-    ensures reported { IfOk result (λ reported. AreReportsAt reported.end (B.group 0).capacity broker.entry.workers setup.entry.max_inflight groups.now reported.text.items) }
+    ensures reported { IfOk result (λ reported. AreReportsAt reported.end (B.group 0).capacity broker.entry.workers setup.entry.limits groups.now reported.text.items) }
     ensures read { IfOk result (λ reported. reported.end ≡ Ok ServingEnd.Ended → IsAtEnd (I.remaining input.new)) }
     ensures cause { IfErr result (λ error. error ≡ Memory) }
 {

@@ -73,7 +73,7 @@ pub fn serve_at<R: Threads + Wait + Net + SystemClock + Sync, I: Read + Send, O:
 ) -> Result<(), RunError>
     requires capacity { (1 ≤ settings.capacity) × (settings.capacity ≤ 65536) }
     requires workers { (1 ≤ settings.workers) × (settings.workers ≤ 64) }
-    ensures written { IsServedAt at.port settings.capacity settings.workers settings.max_inflight groups.now result (O.contents output.old) (O.contents output.new) }
+    ensures written { IsServedAt at.port settings.capacity settings.workers settings.limits groups.now result (O.contents output.old) (O.contents output.new) }
     ensures read { IfOk result (λ _. IsAtEnd (I.remaining input.new)) }
 {
     let source = match TcpSource::open(rt, at.address, at.port) {
@@ -104,7 +104,7 @@ pub fn serve_with<R: Threads + Wait + Net + SystemClock + Sync, I: Read + Send, 
 ) -> Result<(), RunError>
     requires capacity { (1 ≤ settings.capacity) × (settings.capacity ≤ 65536) }
     requires workers { (1 ≤ settings.workers) × (settings.workers ≤ 64) }
-    ensures written { IsServed (listening_line listeners.source.port) settings.capacity settings.workers settings.max_inflight groups.now result (O.contents output.old) (O.contents output.new) }
+    ensures written { IsServed (listening_line listeners.source.port) settings.capacity settings.workers settings.limits groups.now result (O.contents output.old) (O.contents output.new) }
     ensures read { IfOk result (λ _. IsAtEnd (I.remaining input.new)) }
 {
     let Listeners { source, metrics } = listeners;
@@ -200,7 +200,7 @@ fn live<
     requires seats { AreSeatsOf gate.now seats.items × (length seats.items ≡ settings.workers + 3) }
     requires opened { IsOfBroker M.gate M.group settings.workers opened }
     requires capacity { HaveCapacity M.group (M.group 0).capacity }
-    ensures reported { IfOk result (λ reported. AreReportsAt reported.end (M.group 0).capacity settings.workers settings.max_inflight groups.now reported.text.items) }
+    ensures reported { IfOk result (λ reported. AreReportsAt reported.end (M.group 0).capacity settings.workers settings.limits groups.now reported.text.items) }
     ensures written { IfOk result (λ reported. Appends (O.contents output.old) (O.contents output.new) line.now) }
     ensures read { IfOk result (λ reported. reported.end ≡ Ok ServingEnd.Ended → IsAtEnd (I.remaining input.new)) }
     ensures failed { IfErr result (λ error. EndsUnreported line.now error (O.contents output.old) (O.contents output.new)) }
@@ -247,7 +247,7 @@ fn live_with<
     requires seats { AreSeatsOf gate.now seats.items × (length seats.items ≡ settings.workers + 3) }
     requires opened { IsOfBroker B.gate B.group settings.workers opened }
     requires capacity { HaveCapacity B.group (B.group 0).capacity }
-    ensures reported { IfOk result (λ reported. AreReportsAt reported.end (B.group 0).capacity settings.workers settings.max_inflight groups.now reported.text.items) }
+    ensures reported { IfOk result (λ reported. AreReportsAt reported.end (B.group 0).capacity settings.workers settings.limits groups.now reported.text.items) }
     ensures written { IfOk result (λ reported. Appends (O.contents output.old) (O.contents output.new) line.now) }
     ensures read { IfOk result (λ reported. reported.end ≡ Ok ServingEnd.Ended → IsAtEnd (I.remaining input.new)) }
     ensures failed { IfErr result (λ error. EndsUnreported line.now error (O.contents output.old) (O.contents output.new)) }
@@ -284,7 +284,7 @@ fn live_with<
         rt,
         alloc,
         count,
-        settings.max_inflight,
+        settings.limits,
         &drain,
         &places,
         &broker_log,

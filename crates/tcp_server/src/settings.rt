@@ -1,5 +1,5 @@
 //! How a broker on TCP serves.
-use conn_rules::MaxInflight;
+use conn_rules::ClientLimits;
 use session_desk::Newcomers;
 use shared_routes::NewShares;
 
@@ -10,8 +10,8 @@ pub struct ServeSettings {
     pub capacity: usize,
     /// How many workers there are, from 1 to 64.
     pub workers: u8,
-    /// How many messages a client may have unacknowledged at most.
-    pub max_inflight: MaxInflight,
+    /// What a client is granted at most, whatever it asks for.
+    pub limits: ClientLimits,
     /// For how many seconds at most the broker drains once its input has ended; 0 where it does not drain.
     pub drain: u32,
     /// What it does for a client that has no session, until it drains; then none begins.

@@ -9,7 +9,7 @@ use crate::logging::{BrokerLog, LogPart};
 use crate::metering::MetricsPart;
 use crate::socket_poller::SocketPoller;
 use broker_worker::UnusedPoller;
-use conn_rules::MaxInflight;
+use conn_rules::ClientLimits;
 use metrics::SharedCounts;
 use std::alloc::Global;
 use std::net::Net;
@@ -32,13 +32,13 @@ pub(crate) fn socket_setup<'a, R: Net + SystemClock>(
     rt: &'a R,
     alloc: Global,
     count: usize,
-    max_inflight: MaxInflight,
+    limits: ClientLimits,
     drain: &'a Drain,
     places: &'a [SharedCounts],
     log: &'a BrokerLog<'a>,
 ) -> Result<SocketSetup<'a, R>, RunError>
     ensures count { IfOk result (λ setup. length setup.unused_pollers.items ≡ count) }
-    ensures limit { IfOk result (λ setup. setup.max_inflight ≡ max_inflight) }
+    ensures limits { IfOk result (λ setup. setup.limits ≡ limits) }
     ensures cause { IfErr result (λ error. (error ≡ Memory) ⊎ (error ≡ TooFewDescriptors)) }
 {
     let Ok(start) = Instant::now(rt) else {
@@ -65,6 +65,6 @@ pub(crate) fn socket_setup<'a, R: Net + SystemClock>(
     Ok(PoolSetup {
         unused_pollers,
         alarms,
-        max_inflight,
+        limits,
     })
 }

@@ -24,6 +24,7 @@ use Rattle.broker_groups.specs.Answers.{Sights}
 use Rattle.broker_groups.specs.Naming.{AreNewPlacesOf, once_at}
 use Rattle.broker_groups.specs.Outs.{HasOut}
 use Rattle.broker_groups.proofs.Rows.{All-at}
+use Rattle.conn_rules.specs.declared.terms.ClientLimits.{ClientLimits}
 use Rattle.conn_supply.specs.SupplyCalls.{SupplyCall}
 use Rattle.shared_desk.specs.Histories.{TakesEach}
 use Rattle.shared_supply.specs.Calls.{Calls}
@@ -291,12 +292,12 @@ module _ {T : Type 0} (group : ℕ → GroupId) (seen : Sights) (counts : T → 
       (its.0 ∷ others.0, (its.1, others.1))
 
   -- so a run keeps the headline
-  pub keeps_headline : {W : Type 0} (workers max_inflight : ℕ) (came : List T) (before after : DeskCallerState) (shares : List Share) (answers : List (Result Report (Unfinished W))) (strangers : List Held)
+  pub keeps_headline : {W : Type 0} (workers : ℕ) (limits : ClientLimits) (came : List T) (before after : DeskCallerState) (shares : List Share) (answers : List (Result Report (Unfinished W))) (strangers : List Held)
       (served : List ServedCounts) (poller_calls : List (Option (List (PollerCall T)))) (ports : List (List PortState)) → length ports ≡ workers
-      → RunsUntilClosed group seen counts given accepted max_inflight came before after shares ports served poller_calls → IsEachOnce after.own (length after.calls)
+      → RunsUntilClosed group seen counts given accepted limits came before after shares ports served poller_calls → IsEachOnce after.own (length after.calls)
       → KeptItsPromisesBehind group after.calls ports answers strangers
-      → KeepsTheHeadline group seen counts given accepted workers max_inflight came before after shares answers strangers served poller_calls
-  keeps_headline workers max_inflight came before after shares answers strangers served poller_calls ports many run once promises =
+      → KeepsTheHeadline group seen counts given accepted workers limits came before after shares answers strangers served poller_calls
+  keeps_headline workers limits came before after shares answers strangers served poller_calls ports many run once promises =
       let asked = calls_of_all run.workers.runs run.workers.whole in
       record {
         ports = ports;

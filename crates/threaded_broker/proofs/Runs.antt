@@ -15,6 +15,7 @@ use Rattle.group_queue.specs.Ports.{GroupId, PortState}
 use Rattle.broker_groups.specs.Answers.{Sights}
 use Rattle.broker_groups.specs.Naming.{AreNewPlacesOf}
 use Rattle.conn_channel.specs.Interleavings.{IsInterleaving}
+use Rattle.conn_rules.specs.declared.terms.ClientLimits.{ClientLimits}
 use Rattle.worker_connections.specs.declared.served.ServedCounts.{ServedCounts}
 use Rattle.worker_connections.specs.Arrivals.{ArrivedState}
 use Rattle.worker_connections.specs.Chains.{IsWholeRun, KeepsReceiveMaximum, Run}
@@ -50,13 +51,13 @@ of_each P [] lists none holds = none_in P lists none
 of_each P (first ∷ rest) lists is holds =
     each_in (AllByRecursion P) lists is.0 is.1 (first ∷ is.1) is.2 (λ others. (holds.0, others)) (of_each P rest (slice_set lists is.0 is.1) is.3 holds.1)
 
-limited : {T : Type 0} (limit : ℕ) (came : List T) → AllByRecursion (λ (arrived : ArrivedState T). arrived.max_inflight ≤ limit) (arrivals limit came)
-limited limit [] = tt
-limited limit (first ∷ came) = (omega arith, limited limit came)
+limited : {T : Type 0} (limits : ClientLimits) (came : List T) → AllByRecursion (λ (arrived : ArrivedState T). arrived.limits.max_inflight ≤ limits.max_inflight) (arrivals limits came)
+limited limits [] = tt
+limited limits (first ∷ came) = (omega arith, limited limits came)
 
 module _ {T : Type 0} (group : ℕ → GroupId) (seen : Sights) (counts : T → Counts) (given accepted : T → Option (List ℕ)) where
   each_run : (limit : ℕ) (runs : List (Run T)) → AllByRecursion (IsWholeRun group seen counts given accepted) runs
-      → AllByRecursion (AllByRecursion (λ (arrived : ArrivedState T). arrived.max_inflight ≤ limit)) (map (λ (run : Run T). run.last.received) runs)
+      → AllByRecursion (AllByRecursion (λ (arrived : ArrivedState T). arrived.limits.max_inflight ≤ limit)) (map (λ (run : Run T). run.last.received) runs)
       → AllByRecursion (KeepsReceiveMaximum group seen counts given accepted limit) runs
   each_run limit [] whole few = tt
   each_run limit (run ∷ runs) whole few = (within_quota group seen counts given accepted limit run whole.0.is few.0, each_run limit runs whole.1 few.1)
@@ -81,11 +82,11 @@ module _ {T : Type 0} (group : ℕ → GroupId) (seen : Sights) (counts : T → 
       omega (arith, one.0, parts_of_all runs one.1, sum_by-cons (λ (caller : DeskCallerState). caller.parts) run.last.supply.desk (map (λ (one : Run T). one.last.supply.desk) runs))
 
   -- a broker that was served kept to it
-  pub within : (limit workers : ℕ) (came : List T) (before after : DeskCallerState) (routes shares : List Share) (ports : List (List PortState)) (callers : List DeskCallerState) (served : List ServedCounts)
-      (poller_calls : List (Option (List (PollerCall T)))) → shares ≡ take most_routes routes → AreServed group seen counts given accepted (arrivals limit came) routes ports callers served poller_calls
+  pub within : (limits : ClientLimits) (workers : ℕ) (came : List T) (before after : DeskCallerState) (routes shares : List Share) (ports : List (List PortState)) (callers : List DeskCallerState) (served : List ServedCounts)
+      (poller_calls : List (Option (List (PollerCall T)))) → shares ≡ take most_routes routes → AreServed group seen counts given accepted (arrivals limits came) routes ports callers served poller_calls
       → (places : List PlaceState) × AreNewPlacesOf group places × HasPutIn before places → HasTakenIn before callers after → length callers ≡ workers → before.parts + workers ≡ all_parts
-      → RunsUntilClosed group seen counts given accepted limit came before after shares ports served poller_calls
-  within limit workers came before after routes shares ports callers served poller_calls shares_are ran opened taken_in count right =
+      → RunsUntilClosed group seen counts given accepted limits came before after shares ports served poller_calls
+  within limits workers came before after routes shares ports callers served poller_calls shares_are ran opened taken_in count right =
       let parts = ap (sum_by (λ (caller : DeskCallerState). caller.parts)) ran.callers_are ∙ parts_of_all ran.runs ran.one_part in
       let many = sym (ap length ran.callers_are ∙ length-map ran.runs (λ (run : Run T). run.last.supply.desk)) in
       record {
@@ -96,18 +97,18 @@ module _ {T : Type 0} (group : ℕ → GroupId) (seen : Sights) (counts : T → 
         workers = ran;
         taken_in = taken_in;
         whole_right = omega (arith, taken_in.parts, parts, many, count, right);
-        within_receive_maximum = each_run limit ran.runs ran.whole
-            (of_each (λ (arrived : ArrivedState T). arrived.max_inflight ≤ limit) (arrivals limit came) (map (λ (run : Run T). run.last.received) ran.runs) ran.came_to (limited limit came));
+        within_receive_maximum = each_run limits.max_inflight ran.runs ran.whole
+            (of_each (λ (arrived : ArrivedState T). arrived.limits.max_inflight ≤ limits.max_inflight) (arrivals limits came) (map (λ (run : Run T). run.last.received) ran.runs) ran.came_to (limited limits came));
         published = each_published ran.runs;
         numbers = each_numbered ran.runs ran.whole;
         sessions = each_session ran.runs ran.whole;
       }
 
   -- more calls are known of the desk
-  pub known_longer : (limit : ℕ) (came : List T) (before mid after : DeskCallerState) (shares : List Share) (ports : List (List PortState)) (served : List ServedCounts) (poller_calls : List (Option (List (PollerCall T))))
-      → IsPrefix mid.calls after.calls → after ≡ record mid { calls = after.calls } → RunsUntilClosed group seen counts given accepted limit came before mid shares ports served poller_calls
-      → RunsUntilClosed group seen counts given accepted limit came before after shares ports served poller_calls
-  known_longer limit came before mid after shares ports served poller_calls longer same run = record {
+  pub known_longer : (limits : ClientLimits) (came : List T) (before mid after : DeskCallerState) (shares : List Share) (ports : List (List PortState)) (served : List ServedCounts) (poller_calls : List (Option (List (PollerCall T))))
+      → IsPrefix mid.calls after.calls → after ≡ record mid { calls = after.calls } → RunsUntilClosed group seen counts given accepted limits came before mid shares ports served poller_calls
+      → RunsUntilClosed group seen counts given accepted limits came before after shares ports served poller_calls
+  known_longer limits came before mid after shares ports served poller_calls longer same run = record {
     routes = run.routes;
     shares_are = run.shares_are;
     callers = run.callers;

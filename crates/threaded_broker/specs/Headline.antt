@@ -12,6 +12,7 @@ use Rattle.group_queue.specs.declared.finish.Unfinished.{Unfinished}
 use Rattle.group_queue.specs.Ports.{GroupId, PortState}
 use Rattle.broker_groups.specs.Answers.{Sights}
 use Rattle.broker_groups.specs.Naming.{AreNewPlacesOf}
+use Rattle.conn_rules.specs.declared.terms.ClientLimits.{ClientLimits}
 use Rattle.conn_supply.specs.SupplyCalls.{SupplyCall}
 use Rattle.worker_connections.specs.declared.served.ServedCounts.{ServedCounts}
 use Rattle.worker_connections.specs.Chains.{KeepsReceiveMaximum}
@@ -30,19 +31,19 @@ use Rattle.final_report.specs.Brokers.{KeptItsPromisesBehind}
 module _ {T : Type 0} (group : ℕ → GroupId) (seen : Sights) (counts : T → Counts) (given accepted : T → Option (List ℕ)) where
   -- the run of a broker until it was closed: these connections came to its workers, these ports and counts the workers gave back, and these calls they made of their pollers, by
   -- which they closed transports, each as it was then, and waited. The first caller of its desk, which had put new places of the groups into it and did nothing else (`opened`), took in the workers' callers, and has the whole right to call then. At no moment of the run did a connection have more
-  -- unacknowledged PUBLISH packets than its Receive Maximum, and than this limit (4.9); all that the ports accepted came of the PUBLISH packets that these connections
+  -- unacknowledged PUBLISH packets than its Receive Maximum, and than the limit on these that was given (4.9); all that the ports accepted came of the PUBLISH packets that these connections
   -- stepped, each offered to the groups that match and answered as these took it (3.3.4); each asked the desk under the number of its cell; and at each act what is handed out is what is sent, and what is settled is what a
   -- PUBACK came for (4.4). The groups that match are those of these shares, slot by slot, as far as each worker knew them
-  pub record RunsUntilClosed (max_inflight : ℕ) (came : List T) (before after : DeskCallerState) (shares : List Share) (ports : List (List PortState)) (served : List ServedCounts)
+  pub record RunsUntilClosed (limits : ClientLimits) (came : List T) (before after : DeskCallerState) (shares : List Share) (ports : List (List PortState)) (served : List ServedCounts)
       (poller_calls : List (Option (List (PollerCall T)))) : Type 0 where
     pub routes : List Share
     pub shares_are : shares ≡ take most_routes routes
     pub callers : List DeskCallerState
     pub opened : (places : List PlaceState) × AreNewPlacesOf group places × HasPutIn before places
-    pub workers : AreServed group seen counts given accepted (arrivals max_inflight came) routes ports callers served poller_calls
+    pub workers : AreServed group seen counts given accepted (arrivals limits came) routes ports callers served poller_calls
     pub taken_in : HasTakenIn before callers after
     pub whole_right : after.parts ≡ all_parts
-    pub within_receive_maximum : AllByRecursion (KeepsReceiveMaximum group seen counts given accepted max_inflight) workers.runs
+    pub within_receive_maximum : AllByRecursion (KeepsReceiveMaximum group seen counts given accepted limits.max_inflight) workers.runs
     pub published : AllByRecursion (IsPublishedBy group seen counts given accepted) workers.runs
     pub numbers : AllByRecursion (KeepsNumbers group seen counts given accepted) workers.runs
     pub sessions : AllByRecursion (KeepsSessions group seen counts given accepted) workers.runs
@@ -57,11 +58,11 @@ module _ {T : Type 0} (group : ℕ → GroupId) (seen : Sights) (counts : T → 
   -- what the calls of the runs did there, and nothing else (`came_of_calls`): it was handed a message, gave it back, or settled it, as often as a step of a connection did that at this
   -- place; the messages that the calls of a step hand out are those of its PUBLISH packets with DUP 0, in their order, and what they settle is what the PUBACK came for (`calls_are`). The report of a slot is that of the share that is told at its place: to its group
   -- each worker offered what matches that share, from when it knew it. That nothing is handed out after close is said by the token of the drained gate
-  pub record KeepsTheHeadline {W : Type 0} (workers max_inflight : ℕ) (came : List T) (before after : DeskCallerState) (shares : List Share) (answers : List (Result Report (Unfinished W)))
+  pub record KeepsTheHeadline {W : Type 0} (workers : ℕ) (limits : ClientLimits) (came : List T) (before after : DeskCallerState) (shares : List Share) (answers : List (Result Report (Unfinished W)))
       (strangers : List Held) (served : List ServedCounts) (poller_calls : List (Option (List (PollerCall T)))) : Type 0 where
     pub ports : List (List PortState)
     pub every_worker : length ports ≡ workers
-    pub run : RunsUntilClosed max_inflight came before after shares ports served poller_calls
+    pub run : RunsUntilClosed limits came before after shares ports served poller_calls
     pub each_call_once : IsEachOnce after.own (length after.calls)
     pub promises : KeptItsPromisesBehind group after.calls ports answers strangers
     pub calls : List (List (SupplyCall PlaceState))

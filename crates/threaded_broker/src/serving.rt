@@ -135,7 +135,7 @@ where
     Q::Alarm: Send + Sync,
     requires setup { length setup.unused_pollers.items ≡ broker.workers }
     ensures headline { IfOk result (λ outcome. (came : List T) × Gave S.arrived source came outcome.taken.source × (outcome.taken.came ≡ length came)
-        × KeepsTheHeadline B.group B.Seen.Witness T.counts T.given T.accepted broker.entry.workers setup.max_inflight came broker.entry.caller outcome.caller outcome.shares.items outcome.ended.answers.items outcome.ended.strangers.items outcome.served.items (map Q.poller_calls outcome.pollers.items)) }
+        × KeepsTheHeadline B.group B.Seen.Witness T.counts T.given T.accepted broker.entry.workers setup.limits came broker.entry.caller outcome.caller outcome.shares.items outcome.ended.answers.items outcome.ended.strangers.items outcome.served.items (map Q.poller_calls outcome.pollers.items)) }
     ensures closed { IfOk result (λ outcome. outcome.drained ≡ B.gate) }
     ensures taken { IfOk result (λ outcome. (S.tally outcome.taken.source).arrivals ≡ (S.tally source).arrivals + outcome.taken.came) }
     ensures ends { IfOk result (λ outcome. EndedAs S.tally outcome.taken.end source outcome.taken.source) }
@@ -200,7 +200,7 @@ where
     requires setup { length setup.unused_pollers.items ≡ broker.workers }
     ensures ports { IfOk result (λ closed. length closed.ports.items ≡ broker.entry.workers) }
     ensures run { IfOk result (λ closed. (came : List T) × Gave S.arrived source came closed.taken.source × (closed.taken.came ≡ length came)
-        × RunsUntilClosed B.group B.Seen.Witness T.counts T.given T.accepted setup.max_inflight came broker.entry.caller closed.caller closed.shares.items closed.ports.items closed.served.items (map Q.poller_calls closed.pollers.items)) }
+        × RunsUntilClosed B.group B.Seen.Witness T.counts T.given T.accepted setup.limits came broker.entry.caller closed.caller closed.shares.items closed.ports.items closed.served.items (map Q.poller_calls closed.pollers.items)) }
     ensures closed { IfOk result (λ closed. closed.drained ≡ B.gate) }
     ensures taken { IfOk result (λ closed. (S.tally closed.taken.source).arrivals ≡ (S.tally source).arrivals + closed.taken.came) }
     ensures ends { IfOk result (λ closed. EndedAs S.tally closed.taken.end source closed.taken.source) }
@@ -296,7 +296,7 @@ where
     ensures taken { IfOk result (λ ran. (S.tally ran.pooled.taken.source).arrivals ≡ (S.tally source).arrivals + ran.pooled.taken.came) }
     ensures ends { IfOk result (λ ran. EndedAs S.tally ran.pooled.taken.end source ran.pooled.taken.source) }
     ensures served { IfOk result (λ ran. (came : List T) × (routes : List ShareState) × (ran.shares.items ≡ take most_routes routes) × Gave S.arrived source came ran.pooled.taken.source × (ran.pooled.taken.came ≡ length came)
-        × AreServed B.group B.Seen.Witness T.counts T.given T.accepted (arrivals setup.max_inflight came) routes (map (λ handle. handle.ports) ran.pooled.handles.items) (map (λ handle. handle.desk) ran.pooled.handles.items) ran.pooled.served.items (map Q.poller_calls ran.pooled.pollers.items)) }
+        × AreServed B.group B.Seen.Witness T.counts T.given T.accepted (arrivals setup.limits came) routes (map (λ handle. handle.ports) ran.pooled.handles.items) (map (λ handle. handle.desk) ran.pooled.handles.items) ran.pooled.served.items (map Q.poller_calls ran.pooled.pollers.items)) }
     ensures watched { IfOk result (λ _. D.has_watched watch.old watch.new input.old input.new) }
     ensures shares { IfOk result (λ ran. All (IsBoundIn ran.shares.items) shares.now) }
 {

@@ -17,6 +17,7 @@ use Rattle.conn_rules.specs.declared.connecting.FirstAnswer.{FirstAnswer}
 use Rattle.conn_rules.specs.declared.connecting.FirstAnswer.TheVariants as first
 use Rattle.conn_rules.specs.declared.publishing.PublishAnswer.{PublishAnswer}
 use Rattle.conn_rules.specs.declared.publishing.PublishAnswer.TheVariants as answers
+use Rattle.conn_rules.specs.declared.terms.ClientLimits.{ClientLimits}
 use Rattle.conn_rules.specs.Connecting.{first_answer}
 use Rattle.conn_rules.specs.Packets.{puback}
 use Rattle.conn_rules.specs.Publishing.{publish_answer, puback_code, message_of}
@@ -146,13 +147,13 @@ module _ (group : ℕ → GroupId) (seen : Sights) where
   over : (reply : Reply) (between : ConnPhase PlaceState) → reply.packet ≡ None → between ≡ Ended → IsNoPromise reply.packet between
   over reply between is ended = subst (λ (it : Option Packet). IsNoPromise it between) (sym is) ended
 
-  first_answered : (answer : FirstAnswer) (old new : Worker) (number max_inflight now : ℕ) (publish : Publish) (between : ConnPhase PlaceState) (reply : Reply)
-      → AnswersFirst (Calls group seen) slot_of answer old number max_inflight now (packets.Publish publish) between reply new → RepliesTo now publish (publisher_of old) between reply (publisher_of new)
-  first_answered first.Close old new number max_inflight now publish between reply is =
+  first_answered : (answer : FirstAnswer) (old new : Worker) (number : ℕ) (limits : ClientLimits) (now : ℕ) (publish : Publish) (between : ConnPhase PlaceState) (reply : Reply)
+      → AnswersFirst (Calls group seen) slot_of answer old number limits now (packets.Publish publish) between reply new → RepliesTo now publish (publisher_of old) between reply (publisher_of new)
+  first_answered first.Close old new number limits now publish between reply is =
       inr (ap (λ (w : Worker). w.ports) is.1, over reply between (ap (λ (r : Reply). r.packet) is.0.told) is.0.over)
-  first_answered (first.Refuse refusal) old new number max_inflight now publish between reply is =
+  first_answered (first.Refuse refusal) old new number limits now publish between reply is =
       inr (ap (λ (w : Worker). w.ports) is.1, silent reply _ between (ap (λ (r : Reply). r.packet) is.0.told) (λ identifier code few same. cc same))
-  first_answered first.Attach old new number max_inflight now publish between reply is = let never = is.1 in absurd (cc never)
+  first_answered first.Attach old new number limits now publish between reply is = let never = is.1 in absurd (cc never)
 
   concluded : (next : Then) (old new : Worker) (connected : ConnectedClient PlaceState) (now : ℕ) (phase : ConnPhase PlaceState) → Concludes (Calls group seen) slot_of old connected now next phase new
       → new.ports ≡ old.ports
@@ -184,7 +185,7 @@ module _ (group : ℕ → GroupId) (seen : Sights) where
   reacted : (phase : ConnPhase PlaceState) (publish : Publish) (old new : Worker) (number now : ℕ) (between : ConnPhase PlaceState) (reply : Reply)
       → Reacts (Calls group seen) slot_of old number phase now (inputs.Packet (packets.Publish publish)) between reply new → RepliesTo now publish (publisher_of old) between reply (publisher_of new)
   reacted (Unconnected opened) publish old new number now between reply is =
-      first_answered (first_answer (packets.Publish publish)) old new number opened.max_inflight now publish between reply is
+      first_answered (first_answer (packets.Publish publish)) old new number opened.limits now publish between reply is
   reacted (Waiting request ticks) publish old new number now between reply is = absurd is
   reacted (Connected connected) publish old new number now between reply is =
       let asked = asked_of_desk number is.0 old is.1 is.2 in

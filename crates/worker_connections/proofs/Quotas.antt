@@ -35,9 +35,9 @@ IfWithin limit (Some service) = Within limit service.client.conn.phase
 
 -- its client may have no more than so many unacknowledged
 abbrev IsLimited : {T : Type 0} → ℕ → ArrivedState T → Type 0
-IsLimited limit arrived = arrived.max_inflight ≤ limit
+IsLimited limit arrived = arrived.limits.max_inflight ≤ limit
 
-opened_within : {T : Type 0} (limit number : ℕ) (opening : Opening) (watched : T) (before after : Option (ServiceState PlaceState T)) → opening.max_inflight ≤ limit
+opened_within : {T : Type 0} (limit number : ℕ) (opening : Opening) (watched : T) (before after : Option (ServiceState PlaceState T)) → opening.limits.max_inflight ≤ limit
     → Opens number opening watched before after → IfWithin limit after
 opened_within limit number opening watched before None few opens = tt
 opened_within {T = T} limit number opening watched before (Some service) few opens =
@@ -98,7 +98,7 @@ module _ {T : Type 0} (group : ℕ → GroupId) (seen : Sights) (counts : T → 
   came_both (deed ∷ these) those = ap (λ (l : List (ArrivedState T)). came_in deed ++ l) (came_both these those) ∙ sym (append_assoc (came_in deed) (came_by these) (came_by those))
 
   -- where those that came may have no more than so many unacknowledged
-  pub within_quota : (limit : ℕ) (run : Run T) → IsRun group seen counts given accepted run → AllByRecursion (λ (arrived : ArrivedState T). arrived.max_inflight ≤ limit) run.last.received
+  pub within_quota : (limit : ℕ) (run : Run T) → IsRun group seen counts given accepted run → AllByRecursion (λ (arrived : ArrivedState T). arrived.limits.max_inflight ≤ limit) run.last.received
       → KeepsReceiveMaximum group seen counts given accepted limit run
   within_quota limit run is few = record {
     kept = (λ these those mid split made cell service here acts later supply supply' does.

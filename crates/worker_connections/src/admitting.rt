@@ -50,7 +50,7 @@ fn admit<B: Broker, T: Transport, Q: Poller<T>>(
     ensures admits { Admits T.counts T.given T.accepted first now arrived table.old (Q.poller_calls poller.old) result table.new (Q.poller_calls poller.new) }
     ensures len { length table.new ≡ length table.old }
 {
-    let (mut transport, max_inflight) = arrived.into_parts();
+    let (mut transport, limits) = arrived.into_parts();
     let watched = poller.register(&mut transport);
     let cell = match watched {
         Some(cell) if cell < table.len() => cell,
@@ -59,10 +59,7 @@ fn admit<B: Broker, T: Transport, Q: Poller<T>>(
             return None;
         }
     };
-    let opening = Opening {
-        at: now,
-        max_inflight,
-    };
+    let opening = Opening { at: now, limits };
     let number = usize::from(first).saturating_add(cell);
     match table.open(cell, number, opening, transport) {
         Ok(()) => Some(cell),

@@ -1,31 +1,32 @@
 -- What was accepted goes on.
-use Rattle.std.proofs.Common.{◌≡◌, ◌≢◌, ◌+◌, ℕ, List, [], ◌∷◌, ◌++◌, length, Option, Some, None, refl, sym, ap, subst, inl, inr, ◌∙◌, append-nil, append_assoc, length-append, arith}
+use Rattle.std.proofs.Common.{◌≡◌, ◌≢◌, ◌+◌, List, [], ◌∷◌, ◌++◌, length, Option, Some, None, refl, sym, ap, subst, inl, inr, ◌∙◌, append-nil, append_assoc, length-append, arith}
 use Rattle.std.specs.Prelude.{option_map}
 use Rattle.transport.specs.declared.answers.Arrival.TheVariants.{Came}
 use Rattle.transport.specs.declared.counts.Tally.{Tally}
 use Rattle.transport.specs.Counting.{after_arrival, after_came}
 use Rattle.conn_channel.specs.Ends.{SenderState}
+use Rattle.conn_rules.specs.declared.terms.ClientLimits.{ClientLimits}
 use Rattle.worker_connections.specs.Arrivals.{ArrivedState}
 use Rattle.worker_pool.specs.declared.accepting.SourceEnd.{SourceEnd}
 use Rattle.worker_pool.specs.declared.accepting.SourceEnd.TheVariants as ends
 use Rattle.worker_pool.specs.Accepting.{AcceptorState, EndedAs, HasAccepted, OnlyMarks, TellsEnd, arrivals}
 
-arrivals-append : {T : Type 0} (limit : ℕ) (these those : List T) → arrivals limit (these ++ those) ≡ arrivals limit these ++ arrivals limit those
-arrivals-append limit [] those = refl
-arrivals-append {T} limit (one ∷ these) those =
-    ap (λ (l : List (ArrivedState T)). record { transport = one; max_inflight = limit } ∷ l) (arrivals-append limit these those)
+arrivals-append : {T : Type 0} (limits : ClientLimits) (these those : List T) → arrivals limits (these ++ those) ≡ arrivals limits these ++ arrivals limits those
+arrivals-append limits [] those = refl
+arrivals-append {T} limits (one ∷ these) those =
+    ap (λ (l : List (ArrivedState T)). record { transport = one; limits = limits } ∷ l) (arrivals-append limits these those)
 
-arrivals-length : {T : Type 0} (limit : ℕ) (these : List T) → length (arrivals limit these) ≡ length these
-arrivals-length limit [] = refl
-arrivals-length limit (one ∷ these) = let rest = arrivals-length limit these in omega (arith, rest)
+arrivals-length : {T : Type 0} (limits : ClientLimits) (these : List T) → length (arrivals limits these) ≡ length these
+arrivals-length limits [] = refl
+arrivals-length limits (one ∷ these) = let rest = arrivals-length limits these in omega (arith, rest)
 
 -- where nothing was sent before, what was sent is what came
-pub sent_is : {T : Type 0} (came : List T) (first last : List (ArrivedState T)) (limit its : ℕ) → first ≡ [] → limit ≡ its → last ≡ first ++ arrivals limit came → last ≡ arrivals its came
-sent_is {T} came first last limit its none same sent =
-    sent ∙ ap (λ (l : List (ArrivedState T)). l ++ arrivals limit came) none ∙ ap (λ n. arrivals n came) same
+pub sent_is : {T : Type 0} (came : List T) (first last : List (ArrivedState T)) (limits its : ClientLimits) → first ≡ [] → limits ≡ its → last ≡ first ++ arrivals limits came → last ≡ arrivals its came
+sent_is {T} came first last limits its none same sent =
+    sent ∙ ap (λ (l : List (ArrivedState T)). l ++ arrivals limits came) none ∙ ap (λ granted. arrivals granted came) same
 
-pub came_count : {T : Type 0} (limit : ℕ) (came : List T) (first last : List (ArrivedState T)) → first ≡ [] → last ≡ first ++ arrivals limit came → length last ≡ length came
-came_count limit came first last none sent = ap length (sent_is came first last limit limit none refl sent) ∙ arrivals-length limit came
+pub came_count : {T : Type 0} (limits : ClientLimits) (came : List T) (first last : List (ArrivedState T)) → first ≡ [] → last ≡ first ++ arrivals limits came → length last ≡ length came
+came_count limits came first last none sent = ap length (sent_is came first last limits limits none refl sent) ∙ arrivals-length limits came
 
 none_given : {T : Type 0} (known : Option (List T)) → known ≡ option_map (λ those. those ++ []) known
 none_given None = refl
@@ -38,12 +39,12 @@ more_given (Some all) these those = ap (λ (l : List _). Some l) (append_assoc a
 
 module _ {T S : Type 0} (tally : S → Tally) (arrived : S → Option (List T)) where
   -- nothing was taken
-  pub none : (old new : AcceptorState T S) → new.source ≡ old.source → OnlyMarks old.sender new.sender → new.max_inflight ≡ old.max_inflight
+  pub none : (old new : AcceptorState T S) → new.source ≡ old.source → OnlyMarks old.sender new.sender → new.limits ≡ old.limits
       → HasAccepted tally arrived old new
-  none old new source marks limit = record {
+  none old new source marks limits = record {
     channel = ap (λ (s : SenderState (ArrivedState T)). s.channel) marks;
     receivers = ap (λ (s : SenderState (ArrivedState T)). s.receivers) marks;
-    limit = limit;
+    limits = limits;
     came = [];
     sent = ap (λ (s : SenderState (ArrivedState T)). s.sent) marks ∙ sym (append-nil old.sender.sent);
     gave = ap arrived source ∙ none_given (arrived old.source);
@@ -53,12 +54,12 @@ module _ {T S : Type 0} (tally : S → Tally) (arrived : S → Option (List T)) 
   -- one came, and was sent
   pub one : (old : AcceptorState T S) (source : S) (sender : SenderState (ArrivedState T)) (transport : T) → tally source ≡ after_arrival (Came transport) (tally old.source)
       → arrived source ≡ after_came (Came transport) (arrived old.source)
-      → sender ≡ record old.sender { sent = old.sender.sent ++ record { transport = transport; max_inflight = old.max_inflight } ∷ [] }
-      → HasAccepted tally arrived old (record { source = source; sender = sender; max_inflight = old.max_inflight; end = old.end })
+      → sender ≡ record old.sender { sent = old.sender.sent ++ record { transport = transport; limits = old.limits } ∷ [] }
+      → HasAccepted tally arrived old (record { source = source; sender = sender; limits = old.limits; end = old.end })
   one old source sender transport counted told is = record {
     channel = ap (λ (s : SenderState (ArrivedState T)). s.channel) is;
     receivers = ap (λ (s : SenderState (ArrivedState T)). s.receivers) is;
-    limit = refl;
+    limits = refl;
     came = transport ∷ [];
     sent = ap (λ (s : SenderState (ArrivedState T)). s.sent) is;
     gave = told;
@@ -68,16 +69,16 @@ module _ {T S : Type 0} (tally : S → Tally) (arrived : S → Option (List T)) 
   -- and after that more
   pub more : (old mid new : AcceptorState T S) → HasAccepted tally arrived old mid → HasAccepted tally arrived mid new → HasAccepted tally arrived old new
   more old mid new one two =
-      let theirs : arrivals mid.max_inflight two.came ≡ arrivals old.max_inflight two.came = ap (λ n. arrivals n two.came) one.limit in
+      let theirs : arrivals mid.limits two.came ≡ arrivals old.limits two.came = ap (λ granted. arrivals granted two.came) one.limits in
       record {
         channel = two.channel ∙ one.channel;
         receivers = two.receivers ∙ one.receivers;
-        limit = two.limit ∙ one.limit;
+        limits = two.limits ∙ one.limits;
         came = one.came ++ two.came;
-        sent = two.sent ∙ ap (λ (l : List (ArrivedState T)). l ++ arrivals mid.max_inflight two.came) one.sent
-            ∙ append_assoc old.sender.sent (arrivals old.max_inflight one.came) (arrivals mid.max_inflight two.came)
-            ∙ ap (λ (l : List (ArrivedState T)). old.sender.sent ++ (arrivals old.max_inflight one.came ++ l)) theirs
-            ∙ ap (λ (l : List (ArrivedState T)). old.sender.sent ++ l) (sym (arrivals-append old.max_inflight one.came two.came));
+        sent = two.sent ∙ ap (λ (l : List (ArrivedState T)). l ++ arrivals mid.limits two.came) one.sent
+            ∙ append_assoc old.sender.sent (arrivals old.limits one.came) (arrivals mid.limits two.came)
+            ∙ ap (λ (l : List (ArrivedState T)). old.sender.sent ++ (arrivals old.limits one.came ++ l)) theirs
+            ∙ ap (λ (l : List (ArrivedState T)). old.sender.sent ++ l) (sym (arrivals-append old.limits one.came two.came));
         gave = two.gave ∙ ap (λ known. option_map (λ all. all ++ two.came) known) one.gave ∙ more_given (arrived old.source) one.came two.came;
         each = omega (arith, one.each, two.each, length-append one.came two.came);
       }

@@ -1,22 +1,23 @@
 -- Who takes connections from a source, and sends them to workers.
-use Rattle.std.specs.Prelude.{◌≡◌, ◌⊎◌, ℕ, ◌+◌, List, ◌++◌, length, map, Option, option_map}
+use Rattle.std.specs.Prelude.{◌≡◌, ◌⊎◌, ◌+◌, List, ◌++◌, length, map, Option, option_map}
 use Rattle.transport.specs.declared.counts.Tally.{Tally}
 use Rattle.transport.specs.Counting.{MayCome}
 use Rattle.conn_channel.specs.Ends.{SenderState}
+use Rattle.conn_rules.specs.declared.terms.ClientLimits.{ClientLimits}
 use Rattle.worker_connections.specs.Arrivals.{ArrivedState}
 use Rattle.worker_pool.specs.declared.accepting.SourceEnd.{SourceEnd}
 use Rattle.worker_pool.specs.declared.accepting.SourceEnd.TheVariants as ends
 
--- who takes connections: their source, the end by which each of them is sent, the most messages that the client of each may have unacknowledged, and how the source ended
+-- who takes connections: their source, the end by which each of them is sent, what the client of each is granted at most, and how the source ended
 pub record AcceptorState (T S : Type 0) : Type 0 where
   pub source : S
   pub sender : SenderState (ArrivedState T)
-  pub max_inflight : ℕ
+  pub limits : ClientLimits
   pub end : SourceEnd
 
--- connections on their way to workers, over these transports, with this limit
-abbrev pub arrivals : {T : Type 0} → ℕ → List T → List (ArrivedState T)
-arrivals max_inflight transports = map (λ transport. record { transport = transport; max_inflight = max_inflight }) transports
+-- connections on their way to workers, over these transports, with these limits
+abbrev pub arrivals : {T : Type 0} → ClientLimits → List T → List (ArrivedState T)
+arrivals limits transports = map (λ transport. record { transport = transport; limits = limits }) transports
 
 -- a source gave these, in this order, after what it had given
 abbrev pub Gave : {T S : Type 0} → (S → Option (List T)) → S → List T → S → Type 0
@@ -26,9 +27,9 @@ Gave arrived old came new = arrived new ≡ option_map (λ those. those ++ came)
 pub record HasAccepted {T S : Type 0} (tally : S → Tally) (arrived : S → Option (List T)) (old new : AcceptorState T S) : Type 0 where
   pub channel : new.sender.channel ≡ old.sender.channel
   pub receivers : new.sender.receivers ≡ old.sender.receivers
-  pub limit : new.max_inflight ≡ old.max_inflight
+  pub limits : new.limits ≡ old.limits
   pub came : List T
-  pub sent : new.sender.sent ≡ old.sender.sent ++ arrivals old.max_inflight came
+  pub sent : new.sender.sent ≡ old.sender.sent ++ arrivals old.limits came
   pub gave : Gave arrived old.source came new.source
   pub each : (tally new.source).arrivals ≡ (tally old.source).arrivals + length came
 

@@ -8,7 +8,7 @@ use bell::Wake;
 use broker_groups::Broker;
 use broker_worker::Mailboxes;
 use conn_channel::Sender;
-use conn_rules::MaxInflight;
+use conn_rules::ClientLimits;
 use gate_word::{Drained, Gate, GateSeat};
 use std::marker::{Model, PhantomData};
 use std::rt::Clock;
@@ -108,7 +108,7 @@ impl<'a, B: Broker> Closer<'a, B> {
     }
 }
 
-/// Who takes connections from a source, and says how many messages the client of each may have unacknowledged.
+/// Who takes connections from a source, and says what the client of each is granted at most.
 ///
 /// Contracts see it as an `AcceptorState`.
 #[derive(Drop)]
@@ -117,7 +117,7 @@ pub(crate) struct Acceptor<'a, B: Broker, T: Transport + Drop, S: Source<T>, W> 
     sender: Sender<Arrived<T>>,
     mailboxes: &'a Mailboxes<W>,
     closer: Closer<'a, B>,
-    max_inflight: MaxInflight,
+    limits: ClientLimits,
     is_closed: bool,
     // How many connections came.
     came: u64,
@@ -131,29 +131,29 @@ impl<'a, B: Broker, T: Transport + Drop, S: Source<T>, W> Model for Acceptor<'a,
 
     ghost Value = { AcceptorState T S };
 
-    ghost view = { λ a. record { source = a.source; sender = a.sender; max_inflight = a.max_inflight; end = a.end } };
+    ghost view = { λ a. record { source = a.source; sender = a.sender; limits = a.limits; end = a.end } };
 
     ghost invariant = { λ a. (a.is_closed ≡ false → a.sender.end_marks_sent ≡ 0) × (a.came ≡ length a.sender.sent) × (a.came ≤ (S.tally a.source).arrivals) };
 }
 
 impl<'a, B: Broker, T: Transport + Drop, S: Source<T>, W> Acceptor<'a, B, T, S, W> {
-    /// Takes from this source, and sends through this end; the client of each may have so many messages unacknowledged.
+    /// Takes from this source, and sends through this end; the client of each is granted so much at most.
     pub(crate) fn new(
         source: S,
         sender: Sender<Arrived<T>>,
         mailboxes: &'a Mailboxes<W>,
         closer: Closer<'a, B>,
-        max_inflight: MaxInflight,
+        limits: ClientLimits,
     ) -> Acceptor<'a, B, T, S, W>
         requires { (sender.sent ≡ []) × (sender.end_marks_sent ≡ 0) }
-        ensures { result ≡ record { source = source; sender = sender; max_inflight = max_inflight; end = SourceEnd.Untouched } }
+        ensures { result ≡ record { source = source; sender = sender; limits = limits; end = SourceEnd.Untouched } }
     {
         Acceptor {
             source,
             sender,
             mailboxes,
             closer,
-            max_inflight,
+            limits,
             is_closed: false,
             came: 0,
             end: SourceEnd::Untouched,
@@ -179,7 +179,7 @@ impl<'a, B: Broker, T: Transport + Drop, S: Source<T>, W> Acceptor<'a, B, T, S, 
             sender,
             mailboxes: _,
             closer: _,
-            max_inflight: _,
+            limits: _,
             is_closed: _,
             came,
             end,
@@ -252,7 +252,7 @@ impl<'a, B: Broker, T: Transport + Drop, S: Source<T>, W: Wake> Acceptor<'a, B, 
         match self.source.next() {
             Arrival::Came(transport) => {
                 self.came += 1;
-                let arrived = Arrived::new(transport, self.max_inflight);
+                let arrived = Arrived::new(transport, self.limits);
                 deliver(rt, &mut self.sender, arrived);
                 self.mailboxes.invite(worker);
                 None

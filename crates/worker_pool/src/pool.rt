@@ -86,7 +86,7 @@ where
     ensures taken { IfOk result (λ pooled. (S.tally pooled.taken.source).arrivals ≡ (S.tally source).arrivals + pooled.taken.came) }
     ensures ends { IfOk result (λ pooled. EndedAs S.tally pooled.taken.end source pooled.taken.source) }
     ensures served { IfOk result (λ pooled. (came : List T) × Gave S.arrived source came pooled.taken.source × (pooled.taken.came ≡ length came)
-        × AreServed B.group B.Seen.Witness T.counts T.given T.accepted (arrivals setup.max_inflight came) routes.new.told (map (λ handle. handle.ports) pooled.handles.items) (map (λ handle. handle.desk) pooled.handles.items) pooled.served.items (map Q.poller_calls pooled.pollers.items)) }
+        × AreServed B.group B.Seen.Witness T.counts T.given T.accepted (arrivals setup.limits came) routes.new.told (map (λ handle. handle.ports) pooled.handles.items) (map (λ handle. handle.desk) pooled.handles.items) pooled.served.items (map Q.poller_calls pooled.pollers.items)) }
     ensures counted { IfOk result (λ pooled. pooled.taken.came < 2 ^ 64 → pooled.taken.came ≡ total_in pooled.served.items) }
     ensures watched { IfOk result (λ _. D.has_watched watch.old watch.new input.old input.new) }
     ensures untouched { IfErr result (λ unbegun. unbegun.source ≡ source) }
@@ -95,7 +95,7 @@ where
     let PoolSetup {
         unused_pollers,
         alarms,
-        max_inflight,
+        limits,
     } = setup;
     let Ok(
         Provision {
@@ -122,7 +122,7 @@ where
         Ok(hired) => hired,
         Err(handles) => return Err(Unbegun { handles, source }),
     };
-    let mut acceptor = Acceptor::new(source, sender, &mailboxes, closer, max_inflight);
+    let mut acceptor = Acceptor::new(source, sender, &mailboxes, closer, limits);
     let mut workers = workers;
     run_all(rt, &mut acceptor, watch, input, &mut workers);
     Ok(retire(

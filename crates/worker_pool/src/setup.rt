@@ -1,7 +1,7 @@
 //! How a pool serves.
 
 use broker_worker::UnusedPoller;
-use conn_rules::MaxInflight;
+use conn_rules::ClientLimits;
 use transport::Transport;
 use worker_connections::Poller;
 
@@ -13,6 +13,6 @@ pub struct PoolSetup<T: Transport, Q: Poller<T>> {
     pub unused_pollers: Vec<UnusedPoller<T, Q>>,
     /// What wakes each worker.
     pub alarms: Vec<Q::Alarm>,
-    /// How many messages the client of a connection may have unacknowledged at most, whatever its Receive Maximum.
-    pub max_inflight: MaxInflight,
+    /// What the client of a connection is granted at most, whatever it asks for.
+    pub limits: ClientLimits,
 }

@@ -2,7 +2,7 @@
 ghost use Rattle.std.specs.Prelude.{◌≡◌};
 ghost use Rattle.transport.specs.Counting.{no_counts};
 
-use conn_rules::MaxInflight;
+use conn_rules::{ClientLimits, MaxInflight};
 use conn_service::{Served, serve};
 use local_broker::LocalSupply;
 use mqtt_topic::Routes;
@@ -136,7 +136,7 @@ pub(crate) fn serve_over<R: Abort + Wait>(
         rt,
         alloc,
         0,
-        MaxInflight::most(),
+        ClientLimits::inflight_alone(MaxInflight::most()),
         transport,
         supply,
         &OpenCrossing,

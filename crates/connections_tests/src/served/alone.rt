@@ -4,7 +4,7 @@ ghost use Rattle.std.specs.Prelude.{⊤};
 use crate::served::acting::{
     ANSWERS, CONNACK, CONNECT, Moments, Scenario, assert_served, broker, scripted, serves,
 };
-use conn_rules::MaxInflight;
+use conn_rules::{ClientLimits, MaxInflight};
 use conn_service::{Served, serve};
 use scripted_transport::ReadTurn;
 use std::test::Fail;
@@ -82,7 +82,7 @@ fn no_crossing(rt: HostRuntime) {
         &rt,
         rt.alloc(),
         0,
-        MaxInflight::most(),
+        ClientLimits::inflight_alone(MaxInflight::most()),
         transport,
         &mut supply,
         &ShutCrossing,

@@ -2,8 +2,8 @@
 use crate::asserting::{assert_same, assert_same_at};
 use crate::rules::reading::{answer_to_bytes, asked_for, first_answer, packet, published, refusal};
 use conn_rules::{
-    EntryAnswer, FirstAnswer, MaxInflight, PublishAnswer, QueueCapacity, Terms, answer_to_entry,
-    fate_of, fault_code, fault_refusal, is_late, is_overdue, puback_code,
+    ClientLimits, EntryAnswer, FirstAnswer, MaxInflight, Overrides, PublishAnswer, QueueCapacity,
+    Terms, answer_to_entry, fate_of, fault_code, fault_refusal, is_late, is_overdue, puback_code,
 };
 use group_jobs::Fate;
 use mqtt_fields::{Fault, StreamFault};
@@ -74,14 +74,20 @@ fn longest_identifier(rt: HostRuntime) -> Result<(), Fail> {
     Ok(())
 }
 
+// Everything is as the client asked.
+const AS_ASKED: Overrides = Overrides {
+    session_expiry_interval: None,
+    keep_alive: None,
+};
+
 // The Receive Maximum that the client of a CONNECT has under this limit.
 fn receive_maximum(
     alloc: Global,
     digits: &str,
     max_inflight: MaxInflight,
 ) -> Result<Option<u16>, Fault> {
-    match asked_for(alloc, digits, max_inflight) {
-        Ok(Some(terms)) => Ok(Some(terms.receive_maximum)),
+    match asked_for(alloc, digits, ClientLimits::inflight_alone(max_inflight)) {
+        Ok(Some((terms, _))) => Ok(Some(terms.receive_maximum)),
         Ok(None) => Ok(None),
         Err(fault) => Err(fault),
     }
@@ -130,6 +136,7 @@ fn terms_of_clients(rt: HostRuntime) -> Result<(), Fail> {
         session_expiry_interval: 0,
         keep_alive: 60,
         maximum_packet_size: None,
+        max_expiry: None,
     };
     let least = Terms {
         maximum_packet_size: MaximumPacketSize::new(64),
@@ -151,13 +158,83 @@ fn terms_of_clients(rt: HostRuntime) -> Result<(), Fail> {
         (TAKES_65_535, many),
         (asks, asked),
     ];
+    let limits = ClientLimits::inflight_alone(MaxInflight::most());
     for (digits, wanted) in &rows {
-        let asked = asked_for(rt.alloc(), digits, MaxInflight::most())?;
-        assert_same_at(&rt, &asked, &Some(*wanted), digits);
+        let asked = asked_for(rt.alloc(), digits, limits)?;
+        assert_same_at(&rt, &asked, &Some((*wanted, AS_ASKED)), digits);
     }
     assert!(rt; plain.is_given_expiry(1) && !plain.is_given_expiry(0));
     assert!(rt; !asked.is_given_expiry(1));
     Ok(())
+}
+
+// A CONNECT with its Session Expiry Interval and its Keep Alive, the limits of both, and what the broker uses in their place.
+#[test]
+fn within_limits(rt: HostRuntime) -> Result<(), Fail> {
+    let never = "101400044D5154540502003C0511FFFFFFFF00027731";
+    let five = "101400044D5154540502003C05110000000500027731";
+    let no_keep_alive = "100F00044D515454050200000000027731";
+    let rows = [
+        (PLAIN, (0, 60), (Some(4), Some(60)), (None, None)),
+        (five, (5, 60), (Some(5), Some(61)), (None, None)),
+        (five, (5, 60), (Some(4), Some(59)), (Some(4), Some(59))),
+        (never, (u32::MAX, 60), (None, None), (None, None)),
+        (
+            never,
+            (u32::MAX, 60),
+            (Some(3600), None),
+            (Some(3600), None),
+        ),
+        (no_keep_alive, (0, 0), (None, None), (None, None)),
+        (
+            no_keep_alive,
+            (0, 0),
+            (None, Some(u16::MAX)),
+            (None, Some(u16::MAX)),
+        ),
+    ];
+    for (digits, asked, limits, overrides) in &rows {
+        let limits = ClientLimits {
+            max_expiry: limits.0,
+            max_keep_alive: limits.1,
+            ..ClientLimits::inflight_alone(MaxInflight::most())
+        };
+        let wanted = Terms {
+            receive_maximum: 256,
+            session_expiry_interval: overrides.0.unwrap_or(asked.0),
+            keep_alive: overrides.1.unwrap_or(asked.1),
+            maximum_packet_size: None,
+            max_expiry: limits.max_expiry,
+        };
+        let overrides = Overrides {
+            session_expiry_interval: overrides.0,
+            keep_alive: overrides.1,
+        };
+        let found = asked_for(rt.alloc(), digits, limits)?;
+        assert_same_at(&rt, &found, &Some((wanted, overrides)), digits);
+    }
+    Ok(())
+}
+
+// The expiry that a DISCONNECT asks for, the limit, and what the session is given.
+#[test]
+fn expiries_at_the_end(rt: HostRuntime) {
+    let rows = [
+        (u32::MAX, None, u32::MAX),
+        (10, Some(10), 10),
+        (11, Some(10), 10),
+        (0, Some(10), 0),
+    ];
+    for (asked, max_expiry, given) in &rows {
+        let terms = Terms {
+            receive_maximum: 256,
+            session_expiry_interval: 5,
+            keep_alive: 60,
+            maximum_packet_size: None,
+            max_expiry: *max_expiry,
+        };
+        assert_same(&rt, &terms.granted_expiry(*asked), given);
+    }
 }
 
 #[test]

@@ -1,7 +1,7 @@
 //! Packets from hex digits, and what the rules answer to them.
 use conn_rules::{
-    FirstAnswer, MaxInflight, PublishAnswer, Terms, answer_to_first, answer_to_publish,
-    subscribe_refusal, terms_of, unsubscribe_refusal,
+    ClientLimits, FirstAnswer, Overrides, PublishAnswer, Terms, answer_to_first, answer_to_publish,
+    overrides_of, subscribe_refusal, terms_of, unsubscribe_refusal,
 };
 use mqtt_fields::Fault;
 use mqtt_packet::{Packet, ReasonCode};
@@ -23,23 +23,25 @@ pub fn packet(alloc: Global, digits: &str) -> Result<Option<Packet>, Fault> {
     }
 }
 
-/// What a client asked for under this limit, where its packet is a CONNECT.
-fn terms_in(packet: &Packet, max_inflight: MaxInflight) -> Option<Terms> {
+/// What a client asked for under these limits, and what of it is not as it asked, where its packet is a CONNECT.
+fn terms_in(packet: &Packet, limits: ClientLimits) -> Option<(Terms, Overrides)> {
     match packet {
-        Packet::Connect(connect) => Some(terms_of(max_inflight, connect)),
+        Packet::Connect(connect) => {
+            Some((terms_of(&limits, connect), overrides_of(&limits, connect)))
+        }
         _ => None,
     }
 }
 
-/// What the client of the CONNECT that hex digits say asked for, under this limit; `None` where they say none.
+/// What the client of the CONNECT that hex digits say asked for under these limits, and what of it is not as it asked; `None` where they say none.
 pub fn asked_for(
     alloc: Global,
     digits: &str,
-    max_inflight: MaxInflight,
-) -> Result<Option<Terms>, Fault> {
+    limits: ClientLimits,
+) -> Result<Option<(Terms, Overrides)>, Fault> {
     match packet(alloc, digits) {
         Ok(Some(packet)) => {
-            let terms = terms_in(&packet, max_inflight);
+            let terms = terms_in(&packet, limits);
             drop(packet);
             Ok(terms)
         }

@@ -4,8 +4,8 @@ use crate::rules::reading::packet;
 use crate::written;
 use bytes::Bytes;
 use conn_rules::{
-    HandOutTerms, accepting, disconnect, interval_left, is_discarded, is_expired, job, puback,
-    refusing, suback, unsuback,
+    HandOutTerms, Overrides, accepting, disconnect, interval_left, is_discarded, is_expired, job,
+    puback, refusing, suback, unsuback,
 };
 use group_jobs::{Expiry, Message};
 use mqtt_fields::Fault;
@@ -24,12 +24,23 @@ fn sent(alloc: Global, packet: Packet) -> Result<String, Fail> {
 
 #[test]
 fn connacks(rt: HostRuntime) -> Result<(), Fail> {
-    let present = sent(rt.alloc(), accepting(true, None))?;
+    let as_asked = Overrides {
+        session_expiry_interval: None,
+        keep_alive: None,
+    };
+    let present = sent(rt.alloc(), accepting(true, None, as_asked))?;
     assert_text(&rt, present.as_str(), "200c010009240125002700010000");
     let assigned = Text::parse(Bytes::from_static(b"auto-00000001"));
-    let new = sent(rt.alloc(), accepting(false, assigned))?;
+    let new = sent(rt.alloc(), accepting(false, assigned, as_asked))?;
     let wanted = "201c00001912000d6175746f2d3030303030303031240125002700010000";
     assert_text(&rt, new.as_str(), wanted);
+    let limits = Overrides {
+        session_expiry_interval: Some(3_600),
+        keep_alive: Some(60),
+    };
+    let limited = sent(rt.alloc(), accepting(true, None, limits))?;
+    let wanted = "20140100111100000e1013003c240125002700010000";
+    assert_text(&rt, limited.as_str(), wanted);
     let refused = sent(rt.alloc(), refusing(ConnectRefusal::ServerBusy))?;
     assert_text(&rt, refused.as_str(), "2003008900");
     Ok(())

@@ -19,10 +19,29 @@ fn accepting(
     assigned_client_identifier: Option<Text>,
     offer: Offer,
 ) -> Result<Vec<u8>, Fault> {
-    let session_present = false;
     let accepted = Acceptance {
-        session_present,
+        session_present: false,
+        session_expiry_interval: None,
         assigned_client_identifier,
+        server_keep_alive: None,
+        offer,
+    };
+    written(alloc, Packet::Connack(Connack::Accepted(accepted)))
+}
+
+// A CONNACK that accepts with a session, an expiry interval and a keep alive, as it is written.
+fn limiting(
+    alloc: Global,
+    session_expiry_interval: Option<u32>,
+    assigned_client_identifier: Option<Text>,
+    server_keep_alive: Option<u16>,
+    offer: Offer,
+) -> Result<Vec<u8>, Fault> {
+    let accepted = Acceptance {
+        session_present: true,
+        session_expiry_interval,
+        assigned_client_identifier,
+        server_keep_alive,
         offer,
     };
     written(alloc, Packet::Connack(Connack::Accepted(accepted)))
@@ -67,6 +86,42 @@ fn accepting_connack(rt: HostRuntime) -> Result<(), Fail> {
     assert!(rt; offers_a_little(rt.alloc(), assigned, wanted)?);
     let bytes = accepting(rt.alloc(), None, all())?;
     assert_items(&rt, bytes.as_slice(), b"\x20\x03\x00\x00\x00".as_slice());
+    Ok(())
+}
+
+#[test]
+fn limits_in_a_connack(rt: HostRuntime) -> Result<(), Fail> {
+    let rows = [
+        (
+            Some(3_600),
+            None,
+            b"\x20\x08\x01\x00\x05\x11\x00\x00\x0E\x10".as_slice(),
+        ),
+        (
+            Some(0xFEDC_BA98),
+            Some(0x1234),
+            b"\x20\x0B\x01\x00\x08\x11\xFE\xDC\xBA\x98\x13\x12\x34".as_slice(),
+        ),
+        (
+            None,
+            Some(60),
+            b"\x20\x06\x01\x00\x03\x13\x00\x3C".as_slice(),
+        ),
+        (
+            Some(0),
+            Some(0),
+            b"\x20\x0B\x01\x00\x08\x11\x00\x00\x00\x00\x13\x00\x00".as_slice(),
+        ),
+    ];
+    for (expiry, keep_alive, wanted) in &rows {
+        let bytes = limiting(rt.alloc(), *expiry, None, *keep_alive, all())?;
+        assert_items(&rt, bytes.as_slice(), *wanted);
+    }
+    let assigned = Text::parse(Bytes::from_static(b"a"));
+    let bytes = limiting(rt.alloc(), Some(1), assigned, Some(2), little())?;
+    let wanted =
+        b"\x20\x1A\x01\x00\x17\x11\x00\x00\x00\x01\x12\x00\x01a\x13\x00\x02\x24\x01\x25\x00\x27\x00\x01\x00\x00\x29\x00";
+    assert_items(&rt, bytes.as_slice(), wanted.as_slice());
     Ok(())
 }
 

@@ -7,7 +7,7 @@ use crate::in_memory::connections::{AlwaysReady, Meeting, NothingToWatch, Silent
 use broker_groups::{Broker, BrokerName, BrokerPlace, Ended, Opened, Witnessed};
 use broker_worker::UnusedPoller;
 use call_history::HistoryName;
-use conn_rules::MaxInflight;
+use conn_rules::{ClientLimits, MaxInflight};
 use gate_word::{Gate, GateSeat};
 use group_jobs::{Envelope, Report};
 use group_queue::Nobody;
@@ -170,7 +170,7 @@ fn attend<
     let setup = PoolSetup {
         unused_pollers,
         alarms,
-        max_inflight: MaxInflight::most(),
+        limits: ClientLimits::inflight_alone(MaxInflight::most()),
     };
     let served = serve(
         rt,

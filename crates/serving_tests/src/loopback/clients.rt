@@ -4,7 +4,7 @@ use crate::link::{ends, gets, open, say, send};
 use crate::loopback::frames;
 use crate::wrong::Wrong;
 use broker_log::{Level, Log};
-use conn_rules::MaxInflight;
+use conn_rules::{ClientLimits, MaxInflight};
 use mqtt_topic::Routes;
 use session_desk::Newcomers;
 use shared_routes::NewShares;
@@ -318,7 +318,7 @@ fn served_twice<R: Threads + Wait + Net<Listener = TcpListener, Stream = TcpStre
         ServeSettings {
             capacity: 1_024,
             workers: 1,
-            max_inflight: MaxInflight::most(),
+            limits: ClientLimits::inflight_alone(MaxInflight::most()),
             drain: 0,
             newcomers: Newcomers::Displace,
             new_shares: NewShares::Bound,

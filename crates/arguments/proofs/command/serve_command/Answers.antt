@@ -18,7 +18,9 @@ returns c =
     let keep_parked = c.in_ok-arg-8.ensures.shape (simple_own c.keep_parked.result (ap (λ (r : Rule). r.is_simple) c.keep_parked.ensures)) ∙ ap₂ with_rule log c.keep_parked.ensures in
     let declared_groups = c.in_ok-arg-9.ensures.shape (simple_own c.declared_groups.result (ap (λ (r : Rule). r.is_simple) c.declared_groups.ensures)) ∙ ap₂ with_rule keep_parked c.declared_groups.ensures in
     let per_address = c.in_ok-arg-10.ensures.shape (simple_own c.per_address.result (ap (λ (r : Rule). r.is_simple) c.per_address.ensures)) ∙ ap₂ with_rule declared_groups c.per_address.ensures in
-    let capacity = c.in_ok-arg-11.ensures.shape (simple_own c.capacity.result (ap (λ (r : Rule). r.is_simple) c.capacity.ensures)) ∙ ap₂ with_rule per_address c.capacity.ensures in
-    let max_inflight = c.in_ok-arg-12.ensures.shape (simple_own c.max_inflight.result (ap (λ (r : Rule). r.is_simple) c.max_inflight.ensures)) ∙ ap₂ with_rule capacity c.max_inflight.ensures in
+    let max_expiry = c.in_ok-arg-11.ensures.shape (simple_own c.max_expiry.result (ap (λ (r : Rule). r.is_simple) c.max_expiry.ensures)) ∙ ap₂ with_rule per_address c.max_expiry.ensures in
+    let max_keep_alive = c.in_ok-arg-12.ensures.shape (simple_own c.max_keep_alive.result (ap (λ (r : Rule). r.is_simple) c.max_keep_alive.ensures)) ∙ ap₂ with_rule max_expiry c.max_keep_alive.ensures in
+    let capacity = c.in_ok-arg-13.ensures.shape (simple_own c.capacity.result (ap (λ (r : Rule). r.is_simple) c.capacity.ensures)) ∙ ap₂ with_rule max_keep_alive c.capacity.ensures in
+    let max_inflight = c.in_ok-arg-14.ensures.shape (simple_own c.max_inflight.result (ap (λ (r : Rule). r.is_simple) c.max_inflight.ensures)) ∙ ap₂ with_rule capacity c.max_inflight.ensures in
     let own = simple_own c.group.result (ap (λ (r : Rule). r.is_simple) c.group.ensures) in
-    IfOk-weaker c.arg-13.result _ _ (λ command h. h.shape own ∙ ap₂ with_rule max_inflight c.group.ensures) c.arg-13.ensures
+    IfOk-weaker c.arg-15.result _ _ (λ command h. h.shape own ∙ ap₂ with_rule max_inflight c.group.ensures) c.arg-15.ensures

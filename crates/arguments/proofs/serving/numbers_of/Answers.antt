@@ -1,7 +1,7 @@
 -- A service would have the number that is lacking.
-use Rattle.std.proofs.Common.{subst, sym}
+use Rattle.std.proofs.Common.{codes, subst, sym}
 use Rattle.clap.specs.Words.{found_of, rows_of}
-use Rattle.arguments.specs.Options.{HaveCapacity, HaveMaxInflight}
+use Rattle.arguments.specs.Options.{HasNumberIf, HaveCapacity, HaveMaxInflight}
 use Rattle.arguments.proofs.serving.numbers_of.Goals as goal
 
 pub returns : goal.returns
@@ -12,6 +12,8 @@ returns c =
       c.in_ok-drain.ensures,
       c.in_ok-metrics.ensures,
       c.in_ok-per_address.ensures,
+      c.in_ok-max_expiry.ensures,
+      subst (HasNumberIf (codes "max-keep-alive") 1 65535 rows) (sym c.keep_alive_of.ensures) c.in_ok-max_keep_alive.ensures,
       subst (HaveCapacity rows) (sym c.capacity_of.ensures) c.in_ok-messages.ensures,
       subst (HaveMaxInflight rows) (sym c.limit_of.ensures) c.in_ok-packets.ensures,
     )
@@ -31,8 +33,15 @@ returns-in_err-metrics c = rw c.from_residual-in_err-metrics.ensures (λ service
 pub returns-in_err-per_address : goal.returns-in_err-per_address
 returns-in_err-per_address c = rw c.from_residual-in_err-per_address.ensures (λ service by. c.in_err-per_address.ensures service.per_address by.per_address)
 
+pub returns-in_err-max_expiry : goal.returns-in_err-max_expiry
+returns-in_err-max_expiry c = rw c.from_residual-in_err-max_expiry.ensures (λ service by. c.in_err-max_expiry.ensures service.limits.max_expiry by.max_expiry)
+
+pub returns-in_err-max_keep_alive : goal.returns-in_err-max_keep_alive
+returns-in_err-max_keep_alive c =
+    rw c.from_residual-in_err-max_keep_alive.ensures (λ service by. c.in_err-max_keep_alive.ensures service.limits.max_keep_alive by.max_keep_alive)
+
 pub returns-in_err-messages : goal.returns-in_err-messages
-returns-in_err-messages c = rw c.from_residual-in_err-messages.ensures (λ service by. c.in_err-messages.ensures service.setup.capacity by.capacity)
+returns-in_err-messages c = rw c.from_residual-in_err-messages.ensures (λ service by. c.in_err-messages.ensures service.capacity by.capacity)
 
 pub returns-in_err-packets : goal.returns-in_err-packets
-returns-in_err-packets c = rw c.from_residual-in_err-packets.ensures (λ service by. c.in_err-packets.ensures service.setup.max_inflight by.max_inflight)
+returns-in_err-packets c = rw c.from_residual-in_err-packets.ensures (λ service by. c.in_err-packets.ensures service.limits.max_inflight by.max_inflight)

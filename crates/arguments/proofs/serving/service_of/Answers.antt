@@ -34,8 +34,10 @@ returns-in-Ok-clause-ok c =
       keep_parked = c.in-Some-flag_of.ensures;
       declared_groups = c.in-Some-flag_of-2.ensures;
       per_address = c.in-Some-numbers_of.ensures.4;
-      capacity = c.in-Some-numbers_of.ensures.5;
-      max_inflight = c.in-Some-numbers_of.ensures.6;
+      max_expiry = c.in-Some-numbers_of.ensures.5;
+      max_keep_alive = c.in-Some-numbers_of.ensures.6;
+      capacity = c.in-Some-numbers_of.ensures.7;
+      max_inflight = c.in-Some-numbers_of.ensures.8;
       groups = subst (λ texts. AddsEach [] texts c.in-Ok.groups) pairs all;
     }
 
@@ -44,4 +46,4 @@ returns-in_ok-wrong-in-Err-clause-err c =
     let found = found_of c.args.options.now in
     let pairs : map (λ (v : Bor Text). v.now) c.unwrap_or.result.now ≡ pairs_in (rows_of found) = rw c.unwrap_or.ensures (values_are c.get_strs.result _ (all_of (codes "group") (rows_of found)) refl (c.get_strs.ensures ∙ sym (all_is found (codes "group")))) in
     let one : RefusesOne [] (map (λ (v : Bor Text). v.now) c.unwrap_or.result.now) c.in-Err.refused.refusal = rw c.in-Err.is at c.in_ok-groups.ensures in
-    inr (c.in_ok-wrong-in-Err.ensures, λ service by. each_or_refused (pairs_in (rows_of found)) [] service.setup.groups c.in-Err.refused.refusal by.groups (subst (λ texts. RefusesOne [] texts c.in-Err.refused.refusal) pairs one))
+    inr (c.in_ok-wrong-in-Err.ensures, λ service by. each_or_refused (pairs_in (rows_of found)) [] service.groups c.in-Err.refused.refusal by.groups (subst (λ texts. RefusesOne [] texts c.in-Err.refused.refusal) pairs one))

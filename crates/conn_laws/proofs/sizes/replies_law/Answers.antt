@@ -3,13 +3,13 @@ use Rattle.conn_laws.proofs.Replies as replies
 use Rattle.conn_laws.proofs.sizes.replies_law.Goals as goal
 
 pub returns-clause-accepted : goal.returns-clause-accepted
-returns-clause-accepted c present = replies.accepted present
+returns-clause-accepted c present overrides = replies.accepted present overrides
 
 pub returns-clause-assigned : goal.returns-clause-assigned
-returns-clause-assigned c present number = replies.assigned_is_small present number
+returns-clause-assigned c present number overrides = replies.assigned_is_small present number overrides
 
 pub returns-clause-named : goal.returns-clause-named
-returns-clause-named c present name text = replies.named present name text
+returns-clause-named c present name overrides text = replies.named present name overrides text
 
 pub returns-clause-refused : goal.returns-clause-refused
 returns-clause-refused c refusal = replies.refused refusal

@@ -18,7 +18,7 @@ returns-clause-kept g c number opening first acts service supply supply' does =
 pub returns-clause-limited : goal.returns-clause-limited
 returns-clause-limited g c number opening first acts service supply supply' does =
     folded g.S.Supply.call g.S.Supply.begins g.S.Supply.ends g.S.Supply.visiting g.P.Place.slot_of g.T.Transport.counts g.T.Transport.given g.T.Transport.accepted
-    (λ done service supply. IsWithinLimit opening.max_inflight service.client.conn.phase)
+    (λ done service supply. IsWithinLimit opening.limits.max_inflight service.client.conn.phase)
     (λ done act old new supply supply' within one. kept_on g.S.Supply.call g.S.Supply.begins g.S.Supply.ends g.S.Supply.visiting g.P.Place.slot_of g.T.Transport.counts g.T.Transport.given g.T.Transport.accepted
-    (IsWithinLimit opening.max_inflight) tt (limited.within g.S.Supply.call g.P.Place.slot_of opening.max_inflight) act old new supply supply' within one)
+    (IsWithinLimit opening.limits.max_inflight) tt (limited.within g.S.Supply.call g.P.Place.slot_of opening.limits.max_inflight) act old new supply supply' within one)
     acts [] (opened number opening first) service supply supply' (omega arith) does

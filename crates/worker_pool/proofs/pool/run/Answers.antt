@@ -53,8 +53,8 @@ returns-clause-served g c =
     let accepted = c.run_all.ensures.accepted in
     let first = c.new-acceptor.ensures in
     let none = ap (λ (a : AcceptorState g.row.T.Denot g.row.S.Denot). a.sender.sent) first ∙ c.in-Ok.ensures.sender.1 in
-    let limit = ap (λ (a : AcceptorState g.row.T.Denot g.row.S.Denot). a.max_inflight) first in
-    let sent = sent_is accepted.came _ _ _ _ none limit accepted.sent in
+    let limits = ap (λ (a : AcceptorState g.row.T.Denot g.row.S.Denot). a.limits) first in
+    let sent = sent_is accepted.came _ _ _ _ none limits accepted.sent in
     let Source : g.row.S.Denot → g.row.S.Denot → Type 0 = λ old new. Gave g.S.Source.arrived old accepted.came new in
     let Served : List (ArrivedState g.row.T.Denot) → Type 0 = λ arrived.
     AreServed g.B.Broker.group (record { saw_ledger = g.B.Seen.LedgerWitness.saw_ledger; saw_main = g.B.Seen.Witness.saw_main; saw_returns = g.B.Seen.Witness.saw_returns }) g.T.Transport.counts g.T.Transport.given g.T.Transport.accepted arrived c.retire.new.routes.told (map (λ (handle : WorkerHandle g.row.B.Denot g.row.N.Denot g.row.B-Seen.Denot). handle.ports) c.retire.result.handles.items) (map (λ (handle : WorkerHandle g.row.B.Denot g.row.N.Denot g.row.B-Seen.Denot). handle.desk) c.retire.result.handles.items) c.retire.result.served.items

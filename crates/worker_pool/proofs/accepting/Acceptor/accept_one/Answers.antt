@@ -11,7 +11,7 @@ returns-in-Came-clause-accepted g c =
     let sent = c.deliver.ensures ∙ ap (λ (arrived : ArrivedState g.row.T.Denot). record inside.sender { sent = inside.sender.sent ++ arrived ∷ [] }) c.new-arrived.ensures in
     subst
     (λ (old : AcceptorState g.row.T.Denot g.row.S.Denot).
-    HasAccepted g.S.Source.tally g.S.Source.arrived old (record { source = c.next.new.self; sender = c.deliver.new.sender; max_inflight = inside.max_inflight; end = inside.end }))
+    HasAccepted g.S.Source.tally g.S.Source.arrived old (record { source = c.next.new.self; sender = c.deliver.new.sender; limits = inside.limits; end = inside.end }))
     c.self.view_is
-    (one g.S.Source.tally g.S.Source.arrived (record { source = inside.source; sender = inside.sender; max_inflight = inside.max_inflight; end = inside.end }) c.next.new.self c.deliver.new.sender
+    (one g.S.Source.tally g.S.Source.arrived (record { source = inside.source; sender = inside.sender; limits = inside.limits; end = inside.end }) c.next.new.self c.deliver.new.sender
     c.in-Came.transport c.in-Came.ensures.tally c.in-Came.ensures.arrived sent)
