@@ -12,7 +12,7 @@ use Rattle.clap.specs.Words.{IsAmong, Row, Text, fault_of, subcommand_of}
 use Rattle.clap.specs.Kinds.{Kinds}
 use Rattle.clap.specs.declared.error.kind.ErrorKind.{ErrorKind}
 use Rattle.conn_rules.specs.declared.setup.Setup.{Setup}
-use Rattle.conn_rules.specs.declared.terms.ClientLimits.{ClientLimits}
+use Rattle.conn_rules.specs.declared.limits.ClientLimits.{ClientLimits}
 use Rattle.arguments.specs.Groups.{Adds, AddsEach, RefusesOne, share_named}
 use Rattle.arguments.specs.Options.{HasNumber, HasNumberIf, pairs_in}
 use Rattle.arguments.specs.CommandLine.{AreReadAs, AskFor, HaveNoService, HaveRefusedPair, IsServiceBy, IsSetupBy, SpellNoRequest, command_line, flag_word, level_word, word_of}

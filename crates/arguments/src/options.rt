@@ -181,7 +181,7 @@ pub(crate) fn max_expiry<'a>(alloc: Global) -> Arg<'a>
         .value_name("SECONDS")
         .value_parser(value_parser!(u32).range(1..=4_294_967_295))
         .help(
-            "For how many seconds at most a session outlives its connection, 1 to 4294967295: a longer Session Expiry Interval is cut to that, and CONNACK says so; without this option there is no limit",
+            "The longest Session Expiry Interval, 1 to 4294967295 seconds, of which the last limits nothing: a longer one is cut to that, and CONNACK says so; without this option there is no limit",
         )
 }
 

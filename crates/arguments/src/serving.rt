@@ -12,7 +12,7 @@ use crate::service::{ServeOptions, ServeUntil};
 use crate::setup::{capacity_of, limit_of};
 use broker_log::Level;
 use clap::{ArgMatches, Error};
-use conn_rules::{ClientLimits, QueueCapacity};
+use conn_rules::{ClientLimits, ExpiryLimit, KeepAliveLimit, QueueCapacity};
 use std::alloc::{AllocError, Global};
 use std::net::Ipv4Addr;
 
@@ -155,20 +155,31 @@ fn numbers_of(options: &ArgMatches) -> Option<Numbers>
         per_address,
         limits: ClientLimits {
             max_inflight: limit_of(packets),
-            max_expiry,
+            max_expiry: expiry_of(max_expiry),
             max_keep_alive: keep_alive_of(max_keep_alive),
         },
         capacity: capacity_of(messages),
     })
 }
 
-/// The seconds of a keep alive, where it is limited.
-fn keep_alive_of(seconds: Option<u32>) -> Option<u16>
-    requires { IfSome seconds (λ seconds. seconds ≤ 65535) }
+/// The limit of so many seconds of an expiry, where there is one.
+fn expiry_of(seconds: Option<u32>) -> Option<ExpiryLimit>
+    requires { IfSome seconds (λ seconds. 1 ≤ seconds) }
     ensures { result ≡ seconds }
 {
     match seconds {
-        Some(seconds) => Some(seconds as u16),
+        Some(seconds) => ExpiryLimit::new(seconds),
+        None => None,
+    }
+}
+
+/// The limit of so many seconds of a keep alive, where there is one.
+fn keep_alive_of(seconds: Option<u32>) -> Option<KeepAliveLimit>
+    requires { IfSome seconds (λ seconds. (1 ≤ seconds) × (seconds ≤ 65535)) }
+    ensures { result ≡ seconds }
+{
+    match seconds {
+        Some(seconds) => KeepAliveLimit::new(seconds as u16),
         None => None,
     }
 }

@@ -12,7 +12,7 @@ use Rattle.conn_rules.specs.declared.connecting.FirstAnswer.{FirstAnswer}
 use Rattle.conn_rules.specs.declared.connecting.FirstAnswer.TheVariants as first
 use Rattle.conn_rules.specs.Connecting.{first_answer, overrides_of, terms_of}
 use Rattle.conn_rules.specs.declared.hand_outs.HandOutTerms.{HandOutTerms}
-use Rattle.conn_rules.specs.declared.terms.ClientLimits.{ClientLimits}
+use Rattle.conn_rules.specs.declared.limits.ClientLimits.{ClientLimits}
 use Rattle.conn_rules.specs.Faults.{fault_code, fault_refusal}
 use Rattle.conn_rules.specs.KeepAlive.{is_overdue, is_late}
 use Rattle.conn_rules.specs.Packets.{disconnect}

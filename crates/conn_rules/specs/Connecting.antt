@@ -8,7 +8,7 @@ use Rattle.mqtt_packet.specs.declared.packet.Packet.{Packet}
 use Rattle.mqtt_packet.specs.declared.packet.Packet.TheVariants as packets
 use Rattle.conn_rules.specs.declared.connecting.FirstAnswer.{FirstAnswer}
 use Rattle.conn_rules.specs.declared.connecting.FirstAnswer.TheVariants.{Close, Refuse, Attach}
-use Rattle.conn_rules.specs.declared.terms.ClientLimits.{ClientLimits}
+use Rattle.conn_rules.specs.declared.limits.ClientLimits.{ClientLimits}
 use Rattle.conn_rules.specs.declared.terms.Overrides.{Overrides}
 use Rattle.conn_rules.specs.declared.terms.Terms.{Terms}
 
@@ -26,10 +26,10 @@ or_else absent (Some number) = number
 abbrev pub inflight_alone : ℕ → ClientLimits
 inflight_alone max_inflight = record { max_inflight = max_inflight; max_expiry = None; max_keep_alive = None }
 
--- the limit, where there is one and the seconds are more
-abbrev pub no_longer_than : Option ℕ → ℕ → Option ℕ
-no_longer_than None seconds = None
-no_longer_than (Some most) seconds = if nat_lt most seconds then Some most else None
+-- the limit of an expiry, where there is one and the seconds are more
+abbrev pub expiry_in_place : Option ℕ → ℕ → Option ℕ
+expiry_in_place None seconds = None
+expiry_in_place (Some most) seconds = if nat_lt most seconds then Some most else None
 
 -- the limit of a keep alive, where there is one and the client asked for a longer one, or for none
 abbrev pub keep_alive_in_place : Option ℕ → ℕ → Option ℕ
@@ -43,7 +43,7 @@ no_overrides = record { session_expiry_interval = None; keep_alive = None }
 -- 3.2.2.3.2 and 3.2.2.3.14: what the broker uses in place of what a client asked for
 abbrev pub overrides_of : ClientLimits → Connect → Overrides
 overrides_of limits c = record {
-  session_expiry_interval = no_longer_than limits.max_expiry (or_else 0 c.properties.session_expiry_interval);
+  session_expiry_interval = expiry_in_place limits.max_expiry (or_else 0 c.properties.session_expiry_interval);
   keep_alive = keep_alive_in_place limits.max_keep_alive c.keep_alive;
 }
 
@@ -63,7 +63,7 @@ is_given_expiry expiry terms = nat_lt 0 expiry && terms.session_expiry_interval 
 
 -- 3.14.2.2.2: the expiry that a session is given at the end, within the broker's limit (profile)
 abbrev pub granted_expiry : Terms → ℕ → ℕ
-granted_expiry terms seconds = or_else seconds (no_longer_than terms.max_expiry seconds)
+granted_expiry terms seconds = or_else seconds (expiry_in_place terms.max_expiry seconds)
 
 -- 3.2.2.3: what the broker offers (profile)
 abbrev pub offer : Offer

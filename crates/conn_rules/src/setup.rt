@@ -2,7 +2,7 @@
 ghost use Rattle.std.specs.Prelude.{◌≡◌, ◌<◌, ◌≤◌, ◌↔◌, IfSome, IsSome};
 ghost use Rattle.conn_rules.specs.Setups.{most_capacity};
 
-use crate::terms::MaxInflight;
+use crate::limits::MaxInflight;
 use mqtt_topic::Routes;
 use std::marker::Model;
 

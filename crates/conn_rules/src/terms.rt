@@ -1,79 +1,9 @@
 //! What a client asks for when it connects (section 3.1.2).
-ghost use Rattle.std.specs.Prelude.{◌≡◌, ◌<◌, ◌≤◌, ◌↔◌, IfSome, IsSome};
-ghost use Rattle.conn_rules.specs.Connecting.{is_under, inflight_alone, no_longer_than, keep_alive_in_place, overrides_of, terms_of, is_given_expiry, granted_expiry};
+ghost use Rattle.std.specs.Prelude.{◌≡◌};
+ghost use Rattle.conn_rules.specs.Connecting.{is_under, expiry_in_place, keep_alive_in_place, overrides_of, terms_of, is_given_expiry, granted_expiry};
 
+use crate::limits::{ClientLimits, ExpiryLimit, KeepAliveLimit};
 use mqtt_packet::{Connect, MaximumPacketSize};
-use std::marker::Model;
-
-/// How many PUBLISH packets the broker sends a client at most that it has not acknowledged, whatever its Receive Maximum: 1 to 256 (profile).
-#[derive(Clone, Copy, Debug, PartialEq, Eq)]
-pub struct MaxInflight {
-    packets: u16,
-}
-
-impl Model for MaxInflight {
-    ghost use Rattle.std.specs.Prelude.{ℕ, ◌<◌, ◌≤◌};
-
-    ghost Value = { ℕ };
-
-    ghost view = { λ limit. limit.packets };
-
-    ghost invariant = { λ limit. (0 < limit.packets) × (limit.packets ≤ 256) };
-
-    ghost inverse = { λ number. record { packets = number } };
-}
-
-impl MaxInflight {
-    /// The limit of that number; `None` for 0, and for one above 256.
-    pub fn new(packets: u16) -> Option<MaxInflight>
-        ensures value { IfSome result (λ limit. limit ≡ packets) }
-        ensures found { IsSome result ↔ ((0 < packets) × (packets ≤ 256)) }
-    {
-        if packets == 0 || packets > 256 {
-            return None;
-        }
-        Some(MaxInflight { packets })
-    }
-
-    /// The highest limit: 256, as many as a session holds.
-    pub fn most() -> MaxInflight
-        ensures { result ≡ 256 }
-    {
-        MaxInflight { packets: 256 }
-    }
-
-    /// Its number, from 1 to 256.
-    pub fn get(self) -> u16
-        ensures value { result ≡ self }
-        ensures within { (0 < result) × (result ≤ 256) }
-    {
-        self.packets
-    }
-}
-
-/// What the broker grants a client at most, whatever it asks for (profile).
-#[derive(Clone, Copy, Debug, PartialEq, Eq)]
-pub struct ClientLimits {
-    /// How many PUBLISH packets it has unacknowledged.
-    pub max_inflight: MaxInflight,
-    /// For how many seconds its session outlives its connection, if that is limited.
-    pub max_expiry: Option<u32>,
-    /// The seconds of its keep alive, if they are limited: a client that wants no keep alive is given one then.
-    pub max_keep_alive: Option<u16>,
-}
-
-impl ClientLimits {
-    /// This limit, and no other.
-    pub fn inflight_alone(max_inflight: MaxInflight) -> ClientLimits
-        ensures { result ≡ inflight_alone max_inflight }
-    {
-        ClientLimits {
-            max_inflight,
-            max_expiry: None,
-            max_keep_alive: None,
-        }
-    }
-}
 
 /// What the broker uses in place of what a client asked for, as the CONNACK tells it; `None` where it is as the client asked.
 #[derive(Clone, Copy, Debug, PartialEq, Eq)]
@@ -95,8 +25,8 @@ pub struct Terms {
     pub keep_alive: u16,
     /// The most bytes of a packet that it takes, if it named them: from 64 on (section 3.1.2.11.4).
     pub maximum_packet_size: Option<MaximumPacketSize>,
-    /// Seconds: the longest expiry that a DISCONNECT may ask for (section 3.14.2.2.2), if that is limited.
-    pub max_expiry: Option<u32>,
+    /// The longest expiry that a DISCONNECT is given (section 3.14.2.2.2), if that is limited.
+    pub max_expiry: Option<ExpiryLimit>,
 }
 
 impl Terms {
@@ -112,7 +42,7 @@ impl Terms {
     pub fn granted_expiry(&self, seconds: u32) -> u32
         ensures { result ≡ granted_expiry self.now seconds }
     {
-        no_longer_than(self.max_expiry, seconds).unwrap_or(seconds)
+        expiry_in_place(self.max_expiry, seconds).unwrap_or(seconds)
     }
 }
 
@@ -122,7 +52,7 @@ pub fn overrides_of(limits: &ClientLimits, connect: &Connect) -> Overrides
 {
     let expiry = connect.properties.session_expiry_interval.unwrap_or(0);
     Overrides {
-        session_expiry_interval: no_longer_than(limits.max_expiry, expiry),
+        session_expiry_interval: expiry_in_place(limits.max_expiry, expiry),
         keep_alive: keep_alive_in_place(limits.max_keep_alive, connect.keep_alive),
     }
 }
@@ -147,22 +77,22 @@ pub fn terms_of(limits: &ClientLimits, connect: &Connect) -> Terms
     }
 }
 
-/// The limit, where there is one and the seconds are more.
-fn no_longer_than(limit: Option<u32>, seconds: u32) -> Option<u32>
-    ensures { result ≡ no_longer_than limit seconds }
+/// The limit of an expiry, where there is one and the seconds are more.
+fn expiry_in_place(limit: Option<ExpiryLimit>, seconds: u32) -> Option<u32>
+    ensures { result ≡ expiry_in_place limit seconds }
 {
     match limit {
-        Some(most) if most < seconds => Some(most),
+        Some(most) if most.get() < seconds => Some(most.get()),
         _ => None,
     }
 }
 
 /// The limit of a keep alive, where there is one and the client asked for a longer one, or for none.
-fn keep_alive_in_place(limit: Option<u16>, seconds: u16) -> Option<u16>
+fn keep_alive_in_place(limit: Option<KeepAliveLimit>, seconds: u16) -> Option<u16>
     ensures { result ≡ keep_alive_in_place limit seconds }
 {
     match limit {
-        Some(most) if seconds == 0 || most < seconds => Some(most),
+        Some(most) if seconds == 0 || most.get() < seconds => Some(most.get()),
         _ => None,
     }
 }

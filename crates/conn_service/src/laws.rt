@@ -69,7 +69,7 @@ pub fn session_law<P: HoldingPlace, T: Transport, S: Supply<P>>()
 
 /// **The PUBLISH packets of a life are those of a legal transcript** (sections 4.4 and 4.9). Either no PUBLISH is sent in a life, or the connection is given a
 /// session in it: by one of its acts, in whose step the supply hands the session out. For every session that is given in the life so: it was asked for
-/// under the connection's number; the connection has the terms of a CONNECT that came by then, cut to the limits that the connection was
+/// under the connection's number; the connection has the terms of a CONNECT that came by then, within the limits that the connection was
 /// opened with; no PUBLISH is sent before that act, and no later act gives another. And unless its window is ending, from that act on each act adds its own marks to the transcript of the session, as [`session_law`] has them of each step, and all of them are legal from what the window of
 /// the session held when it was given: each message that is sent for the first time goes out with DUP 0 under the least identifier that is free, after all that
 /// is sent again; what is sent again has its own identifier, in the order of first sending; only what is held is acknowledged; and no more is

@@ -5,7 +5,7 @@ use Rattle.std.proofs.lemmas.List.Elements.{filter-append}
 use Rattle.mqtt_packet.specs.declared.packet.Connect.{Connect}
 use Rattle.conn_rules.specs.Connecting.{inflight_alone, terms_of}
 use Rattle.conn_rules.specs.declared.setup.Setup.{Setup}
-use Rattle.conn_rules.specs.declared.terms.ClientLimits.{ClientLimits}
+use Rattle.conn_rules.specs.declared.limits.ClientLimits.{ClientLimits}
 use Rattle.conn_rules.specs.declared.terms.Terms.{Terms}
 use Rattle.conn_engine.specs.declared.input.Input.{Input}
 use Rattle.conn_engine.specs.declared.phase.ConnectedClient.{ConnectedClient}

@@ -134,7 +134,7 @@ fn texts_are_shown(rt: HostRuntime) -> Result<(), Fail> {
         ("share_broker serve --help", "--log <LEVEL>"),
         ("share_broker help serve", "[default: off]"),
         ("share_broker serve --help", "--max-expiry <SECONDS>"),
-        ("share_broker help serve", "1 to 4294967295:"),
+        ("share_broker help serve", "1 to 4294967295 seconds"),
         ("share_broker serve --help", "--max-keep-alive <SECONDS>"),
         ("share_broker help serve", "1 to 65535 seconds:"),
         ("share_broker drive --help", "1 to 65536 [default: 1024]"),

@@ -73,11 +73,11 @@ fn broker(alloc: Global, service: &ServeOptions) -> Result<String, AllocError> {
 /// The longest expiry and the longest keep alive, where they are limited.
 fn limited(alloc: Global, limits: ClientLimits) -> Result<String, AllocError> {
     let expiry = match limits.max_expiry {
-        Some(seconds) => format!(in alloc; " expiry {seconds}")?,
+        Some(seconds) => format!(in alloc; " expiry {}", seconds.get())?,
         None => String::new(alloc),
     };
     match limits.max_keep_alive {
-        Some(seconds) => format!(in alloc; "{expiry} alive {seconds}"),
+        Some(seconds) => format!(in alloc; "{expiry} alive {}", seconds.get()),
         None => Ok(expiry),
     }
 }

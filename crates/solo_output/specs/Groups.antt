@@ -45,8 +45,8 @@ pub record SoloState : Type 0 where
   pub subscription : Option ℕ
   pub handed_out : List HandOut
 
--- 3.1.2: what holds before a CONNECT: no keep alive, the greatest Receive Maximum, packets of any size, and a session that ends with
--- its connection
+-- 3.1.2: what holds before a CONNECT: no keep alive, the greatest Receive Maximum, packets of any size, a session that ends with its
+-- connection, and no limit of its expiry
 abbrev pub default_terms : Terms
 default_terms = record { receive_maximum = 65535; session_expiry_interval = 0; keep_alive = 0; maximum_packet_size = None; max_expiry = None }
 

@@ -2,8 +2,9 @@
 use crate::asserting::{assert_same, assert_same_at};
 use crate::rules::reading::{answer_to_bytes, asked_for, first_answer, packet, published, refusal};
 use conn_rules::{
-    ClientLimits, EntryAnswer, FirstAnswer, MaxInflight, Overrides, PublishAnswer, QueueCapacity,
-    Terms, answer_to_entry, fate_of, fault_code, fault_refusal, is_late, is_overdue, puback_code,
+    ClientLimits, EntryAnswer, ExpiryLimit, FirstAnswer, KeepAliveLimit, MaxInflight, Overrides,
+    PublishAnswer, QueueCapacity, Terms, answer_to_entry, fate_of, fault_code, fault_refusal,
+    is_late, is_overdue, puback_code,
 };
 use group_jobs::Fate;
 use mqtt_fields::{Fault, StreamFault};
@@ -102,6 +103,13 @@ fn limits(rt: HostRuntime) -> Result<(), Fail> {
         assert!(rt; MaxInflight::new(*number).is_some_and(|limit| limit.get() == *number));
     }
     assert_same(&rt, &MaxInflight::most().get(), &256);
+    assert!(rt; ExpiryLimit::new(0).is_none() && KeepAliveLimit::new(0).is_none());
+    for number in &[1, u32::MAX] {
+        assert!(rt; ExpiryLimit::new(*number).is_some_and(|limit| limit.get() == *number));
+    }
+    for number in &[1, u16::MAX] {
+        assert!(rt; KeepAliveLimit::new(*number).is_some_and(|limit| limit.get() == *number));
+    }
     for number in &[0, 65_537, u32::MAX] {
         assert!(rt; QueueCapacity::new(*number).is_none());
     }
@@ -195,8 +203,8 @@ fn within_limits(rt: HostRuntime) -> Result<(), Fail> {
     ];
     for (digits, asked, limits, overrides) in &rows {
         let limits = ClientLimits {
-            max_expiry: limits.0,
-            max_keep_alive: limits.1,
+            max_expiry: limits.0.and_then(|seconds| ExpiryLimit::new(seconds)),
+            max_keep_alive: limits.1.and_then(|seconds| KeepAliveLimit::new(seconds)),
             ..ClientLimits::inflight_alone(MaxInflight::most())
         };
         let wanted = Terms {
@@ -221,9 +229,9 @@ fn within_limits(rt: HostRuntime) -> Result<(), Fail> {
 fn expiries_at_the_end(rt: HostRuntime) {
     let rows = [
         (u32::MAX, None, u32::MAX),
-        (10, Some(10), 10),
-        (11, Some(10), 10),
-        (0, Some(10), 0),
+        (10, ExpiryLimit::new(10), 10),
+        (11, ExpiryLimit::new(10), 10),
+        (0, ExpiryLimit::new(10), 0),
     ];
     for (asked, max_expiry, given) in &rows {
         let terms = Terms {

@@ -4,7 +4,7 @@ use crate::link::{ends, gets, open, say};
 use crate::loopback::clients::counts_of;
 use crate::loopback::frames;
 use crate::wrong::Wrong;
-use conn_rules::{ClientLimits, MaxInflight};
+use conn_rules::{ClientLimits, ExpiryLimit, KeepAliveLimit, MaxInflight};
 use std::alloc::Global;
 use std::net::{Net, TcpListener, TcpStream};
 use std::rt::Clock;
@@ -31,8 +31,8 @@ struct Limited;
 impl Day for Limited {
     fn broker(&self) -> Listener {
         let limits = ClientLimits {
-            max_expiry: Some(1),
-            max_keep_alive: Some(1),
+            max_expiry: ExpiryLimit::new(1),
+            max_keep_alive: KeepAliveLimit::new(1),
             ..ClientLimits::inflight_alone(MaxInflight::most())
         };
         Listener {

@@ -12,7 +12,7 @@ returns c =
       c.in_ok-drain.ensures,
       c.in_ok-metrics.ensures,
       c.in_ok-per_address.ensures,
-      c.in_ok-max_expiry.ensures,
+      subst (HasNumberIf (codes "max-expiry") 1 4294967295 rows) (sym c.expiry_of.ensures) c.in_ok-max_expiry.ensures,
       subst (HasNumberIf (codes "max-keep-alive") 1 65535 rows) (sym c.keep_alive_of.ensures) c.in_ok-max_keep_alive.ensures,
       subst (HaveCapacity rows) (sym c.capacity_of.ensures) c.in_ok-messages.ensures,
       subst (HaveMaxInflight rows) (sym c.limit_of.ensures) c.in_ok-packets.ensures,

@@ -1,0 +1,154 @@
+//! What the broker grants a client at most, whatever it asks for (profile).
+ghost use Rattle.std.specs.Prelude.{◌≡◌, ◌<◌, ◌≤◌, ◌↔◌, IfSome, IsSome};
+ghost use Rattle.conn_rules.specs.Connecting.{inflight_alone};
+
+use std::marker::Model;
+
+/// How many PUBLISH packets the broker sends a client at most that it has not acknowledged, whatever its Receive Maximum: 1 to 256 (profile).
+#[derive(Clone, Copy, Debug, PartialEq, Eq)]
+pub struct MaxInflight {
+    packets: u16,
+}
+
+impl Model for MaxInflight {
+    ghost use Rattle.std.specs.Prelude.{ℕ, ◌<◌, ◌≤◌};
+
+    ghost Value = { ℕ };
+
+    ghost view = { λ limit. limit.packets };
+
+    ghost invariant = { λ limit. (0 < limit.packets) × (limit.packets ≤ 256) };
+
+    ghost inverse = { λ number. record { packets = number } };
+}
+
+impl MaxInflight {
+    /// The limit of that number; `None` for 0, and for one above 256.
+    pub fn new(packets: u16) -> Option<MaxInflight>
+        ensures value { IfSome result (λ limit. limit ≡ packets) }
+        ensures found { IsSome result ↔ ((0 < packets) × (packets ≤ 256)) }
+    {
+        if packets == 0 || packets > 256 {
+            return None;
+        }
+        Some(MaxInflight { packets })
+    }
+
+    /// The highest limit: 256, as many as a session holds.
+    pub fn most() -> MaxInflight
+        ensures { result ≡ 256 }
+    {
+        MaxInflight { packets: 256 }
+    }
+
+    /// Its number, from 1 to 256.
+    pub fn get(self) -> u16
+        ensures value { result ≡ self }
+        ensures within { (0 < result) × (result ≤ 256) }
+    {
+        self.packets
+    }
+}
+
+/// For how many seconds a session outlives its connection at most, whatever its client asks for: 1 or more (profile). The highest, 2^32 - 1, limits nothing: such a session
+/// ends by no time.
+#[derive(Clone, Copy, Debug, PartialEq, Eq)]
+pub struct ExpiryLimit {
+    seconds: u32,
+}
+
+impl Model for ExpiryLimit {
+    ghost use Rattle.std.specs.Prelude.{ℕ, ◌<◌};
+
+    ghost Value = { ℕ };
+
+    ghost view = { λ limit. limit.seconds };
+
+    ghost invariant = { λ limit. 0 < limit.seconds };
+
+    ghost inverse = { λ number. record { seconds = number } };
+}
+
+impl ExpiryLimit {
+    /// The limit of so many seconds; `None` for 0.
+    pub fn new(seconds: u32) -> Option<ExpiryLimit>
+        ensures value { IfSome result (λ limit. limit ≡ seconds) }
+        ensures found { IsSome result ↔ (0 < seconds) }
+    {
+        if seconds == 0 {
+            return None;
+        }
+        Some(ExpiryLimit { seconds })
+    }
+
+    /// Its seconds, from 1 on.
+    pub fn get(self) -> u32
+        ensures value { result ≡ self }
+        ensures some { 0 < result }
+    {
+        self.seconds
+    }
+}
+
+/// How many seconds a keep alive has at most, whatever its client asks for: 1 or more (profile).
+#[derive(Clone, Copy, Debug, PartialEq, Eq)]
+pub struct KeepAliveLimit {
+    seconds: u16,
+}
+
+impl Model for KeepAliveLimit {
+    ghost use Rattle.std.specs.Prelude.{ℕ, ◌<◌};
+
+    ghost Value = { ℕ };
+
+    ghost view = { λ limit. limit.seconds };
+
+    ghost invariant = { λ limit. 0 < limit.seconds };
+
+    ghost inverse = { λ number. record { seconds = number } };
+}
+
+impl KeepAliveLimit {
+    /// The limit of so many seconds; `None` for 0.
+    pub fn new(seconds: u16) -> Option<KeepAliveLimit>
+        ensures value { IfSome result (λ limit. limit ≡ seconds) }
+        ensures found { IsSome result ↔ (0 < seconds) }
+    {
+        if seconds == 0 {
+            return None;
+        }
+        Some(KeepAliveLimit { seconds })
+    }
+
+    /// Its seconds, from 1 on.
+    pub fn get(self) -> u16
+        ensures value { result ≡ self }
+        ensures some { 0 < result }
+    {
+        self.seconds
+    }
+}
+
+/// What the broker grants a client at most, whatever it asks for (profile).
+#[derive(Clone, Copy, Debug, PartialEq, Eq)]
+pub struct ClientLimits {
+    /// How many PUBLISH packets it has unacknowledged.
+    pub max_inflight: MaxInflight,
+    /// For how many seconds its session outlives its connection, if that is limited.
+    pub max_expiry: Option<ExpiryLimit>,
+    /// The seconds of its keep alive, if they are limited: a client that wants no keep alive is given one then.
+    pub max_keep_alive: Option<KeepAliveLimit>,
+}
+
+impl ClientLimits {
+    /// This limit, and no other.
+    pub fn inflight_alone(max_inflight: MaxInflight) -> ClientLimits
+        ensures { result ≡ inflight_alone max_inflight }
+    {
+        ClientLimits {
+            max_inflight,
+            max_expiry: None,
+            max_keep_alive: None,
+        }
+    }
+}
