@@ -77,7 +77,7 @@ assigned_is_small present number overrides =
     let expiry = overrides.session_expiry_interval in
     let keep_alive = overrides.keep_alive in
     small_body (accepting present (Some (assigned_name number)) overrides) (28 + override_bytes expiry keep_alive) (assigned_body present number expiry keep_alive)
-        (omega (arith, few_override expiry keep_alive))
+    (omega (arith, few_override expiry keep_alive))
 
 -- a text is not too long for its length to be said
 text_length : (name : List ℕ) → IsText name → length name < 65536
