@@ -1,6 +1,10 @@
--- The workers got no place to wait at, and nothing was written.
-use Rattle.tcp_server.proofs.Served.{not_set_up}
+-- The workers got no place to wait at, and nothing was written; or the first line was not, and a beginning of it was.
+use Rattle.tcp_server.proofs.Served.{not_set_up, not_written}
 use Rattle.tcp_server.proofs.serving.live_with.Goals as goal
 
 pub returns-in-Err-clause-failed : goal.returns-in-Err-clause-failed
 returns-in-Err-clause-failed g c = not_set_up c.args.line.now c.in-Err.error (g.O.Write.contents c.args.output.now) c.in-Err.ensures.cause
+
+pub returns-in-Err-write_all-clause-failed : goal.returns-in-Err-write_all-clause-failed
+returns-in-Err-write_all-clause-failed g c =
+    not_written c.args.line.now c.in-Err-write_all.error (g.O.Write.contents c.args.output.now) (g.O.Write.contents c.write_all.new.writer) c.in-Err-write_all.ensures.cause c.in-Err-write_all.ensures.err
