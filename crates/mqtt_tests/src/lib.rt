@@ -1,4 +1,4 @@
-//! Tests of what MQTT says of packets, names and answers: of `mqtt_packet`, `mqtt_fields` and `mqtt_wire`, of `mqtt_topic` and of `conn_rules`.
+//! Tests of what MQTT says of packets, names and answers: of `mqtt_packet`, `mqtt_fields` and `mqtt_wire`, of `mqtt_topic`, of `users` and of `conn_rules`.
 #![tactic(auto)]
 
 #[cfg(test)]
@@ -7,6 +7,8 @@ mod asserting;
 mod rules;
 #[cfg(test)]
 mod topics;
+#[cfg(test)]
+mod user_files;
 #[cfg(test)]
 mod wire;
 

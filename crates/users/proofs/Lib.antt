@@ -1,0 +1,9 @@
+pub mod Bytes
+pub mod Chain
+pub mod Seen
+pub mod Cuts
+pub mod Files
+pub mod Made
+pub mod Small
+pub mod Lacking
+pub mod ReadBack
