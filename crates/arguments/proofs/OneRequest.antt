@@ -12,14 +12,14 @@ use Rattle.clap.specs.Words.{IsAmong, Row, Text, fault_of, subcommand_of}
 use Rattle.clap.specs.Kinds.{Kinds}
 use Rattle.clap.specs.declared.error.kind.ErrorKind.{ErrorKind}
 use Rattle.conn_rules.specs.declared.setup.Setup.{Setup}
-use Rattle.conn_rules.specs.declared.limits.ClientLimits.{ClientLimits}
 use Rattle.arguments.specs.Groups.{Adds, AddsEach, RefusesOne, share_named}
 use Rattle.arguments.specs.Options.{HasNumber, HasNumberIf, pairs_in}
-use Rattle.arguments.specs.CommandLine.{AreReadAs, AskFor, HaveNoService, HaveRefusedPair, IsServiceBy, IsSetupBy, SpellNoRequest, command_line, flag_word, level_word, word_of}
+use Rattle.arguments.specs.CommandLine.{AreReadAs, AskFor, HaveNoPassword, HaveNoService, HaveRefusedPair, IsPasswordBy, IsServiceBy, IsSetupBy, SpellNoRequest, command_line, flag_word, level_word, word_of}
 use Rattle.arguments.specs.declared.command.Request.{Request}
-use Rattle.arguments.specs.declared.command.Request.TheVariants.{Drive, Serve, Solo}
+use Rattle.arguments.specs.declared.command.Request.TheVariants.{Drive, HashPassword, Serve, Solo}
 use Rattle.arguments.specs.declared.groups.Refusal.{Refusal}
 use Rattle.arguments.specs.declared.groups.Refusal.TheVariants.{Ninth, NoShare, Twice}
+use Rattle.arguments.specs.declared.password.PasswordOptions.{PasswordOptions}
 use Rattle.arguments.specs.declared.service.ServeOptions.{ServeOptions}
 use Rattle.arguments.specs.declared.service.ServeUntil.{ServeUntil}
 use Rattle.arguments.specs.declared.service.ServeUntil.TheVariants.{Stdin, Killed}
@@ -129,7 +129,6 @@ IsFew workers = (1 ≤ workers) × (workers ≤ 64)
 
 one_service : (rows : List Row) (a b : ServeOptions) → IsServiceBy rows a → IsServiceBy rows b → a ≡ b
 one_service rows a b h i =
-    let made : ℕ → Option ℕ → Option ℕ → ClientLimits = λ max_inflight max_expiry max_keep_alive. record { max_inflight = max_inflight; max_expiry = max_expiry; max_keep_alive = max_keep_alive } in
     let address = one_address rows a b h i in
     let port = one_number (codes "port") 0 65535 rows a.port b.port h.port i.port in
     let workers = one_number (codes "workers") 1 64 rows a.workers b.workers h.workers i.workers in
@@ -141,11 +140,21 @@ one_service rows a b h i =
     let declared_groups = one_declared rows a b h i in
     let per_address = one_number (codes "per-address") 0 65535 rows a.per_address b.per_address h.per_address i.per_address in
     let capacity = one_number (codes "capacity") 1 65536 rows a.capacity b.capacity h.capacity i.capacity in
-    let max_inflight = one_number (codes "max-inflight") 1 256 rows a.limits.max_inflight b.limits.max_inflight h.max_inflight i.max_inflight in
-    let max_expiry = one_number_if (codes "max-expiry") 1 4294967295 rows a.limits.max_expiry b.limits.max_expiry h.max_expiry i.max_expiry in
-    let max_keep_alive = one_number_if (codes "max-keep-alive") 1 65535 rows a.limits.max_keep_alive b.limits.max_keep_alive h.max_keep_alive i.max_keep_alive in
+    let max_inflight = one_number (codes "max-inflight") 1 256 rows a.max_inflight b.max_inflight h.max_inflight i.max_inflight in
+    let max_expiry = one_number_if (codes "max-expiry") 1 4294967295 rows a.max_expiry b.max_expiry h.max_expiry i.max_expiry in
+    let max_keep_alive = one_number_if (codes "max-keep-alive") 1 65535 rows a.max_keep_alive b.max_keep_alive h.max_keep_alive i.max_keep_alive in
+    let users = sym h.users ∙ i.users in
     let groups = each_one (pairs_in rows) [] a.groups b.groups h.groups i.groups in
-    (λ i. record { address = address i; port = port i; workers = workers i; until = until i; drain = drain i; metrics = metrics i; log = log i; keep_parked = keep_parked i; declared_groups = declared_groups i; per_address = per_address i; limits = made (max_inflight i) (max_expiry i) (max_keep_alive i); capacity = capacity i; groups = groups i; few = is_prop→PathP (λ j. IsFew (workers j)) (λ j. ×_prop le_prop le_prop) a.few b.few i })
+    (λ i. record { address = address i; port = port i; workers = workers i; until = until i; drain = drain i; metrics = metrics i; log = log i; keep_parked = keep_parked i; declared_groups = declared_groups i; per_address = per_address i; max_expiry = max_expiry i; max_keep_alive = max_keep_alive i; users = users i; capacity = capacity i; max_inflight = max_inflight i; groups = groups i; few = is_prop→PathP (λ j. IsFew (workers j)) (λ j. ×_prop le_prop le_prop) a.few b.few i })
+
+abbrev IsCounted : ℕ → Type 0
+IsCounted iterations = (1 ≤ iterations) × (iterations ≤ 1000000)
+
+one_password : (rows : List Row) (a b : PasswordOptions) → IsPasswordBy rows a → IsPasswordBy rows b → a ≡ b
+one_password rows a b h i =
+    let name = same_text _ a.name b.name h.name i.name in
+    let iterations = one_number (codes "iterations") 1 1000000 rows a.iterations b.iterations h.iterations i.iterations in
+    (λ i. record { name = name i; iterations = iterations i; counted = is_prop→PathP (λ j. IsCounted (iterations j)) (λ j. ×_prop le_prop le_prop) a.counted b.counted i })
 
 one_reading : (words : List Text) (a b : Text) (x y : List Row) → AreReadAs words a x → AreReadAs words b y → (a ≡ b) × (y ≡ x)
 one_reading words a b x y h i = same_pair (subcommand_of command_line words) a b x y h.1 i.1
@@ -159,6 +168,21 @@ not_serve e = cc
 drive_not_serve : codes "drive" ≡ codes "serve" → ⊥
 drive_not_serve e =
     let letters : 100 ≡ 115 = ap first_letter e in
+    absurd (omega (arith, letters))
+
+not_hash : codes "solo" ≡ codes "hash-password" → ⊥
+not_hash e =
+    let letters : 115 ≡ 104 = ap first_letter e in
+    absurd (omega (arith, letters))
+
+drive_not_hash : codes "drive" ≡ codes "hash-password" → ⊥
+drive_not_hash e =
+    let letters : 100 ≡ 104 = ap first_letter e in
+    absurd (omega (arith, letters))
+
+serve_not_hash : codes "serve" ≡ codes "hash-password" → ⊥
+serve_not_hash e =
+    let letters : 115 ≡ 104 = ap first_letter e in
     absurd (omega (arith, letters))
 
 pub one : (words : List Text) (a b : Request) → AskFor words a → AskFor words b → a ≡ b
@@ -177,6 +201,15 @@ one words (Solo a) (Serve b) (x, read, setup) (y, read', service) = absurd (not_
 one words (Serve a) (Solo b) (x, read, service) (y, read', setup) = absurd (not_serve (sym (one_reading words (codes "serve") (codes "solo") x y read read').0))
 one words (Drive a) (Serve b) (x, read, setup) (y, read', service) = absurd (drive_not_serve (one_reading words (codes "drive") (codes "serve") x y read read').0)
 one words (Serve a) (Drive b) (x, read, service) (y, read', setup) = absurd (drive_not_serve (sym (one_reading words (codes "serve") (codes "drive") x y read read').0))
+one words (HashPassword a) (HashPassword b) (x, read, password) (y, read', password') =
+    let same = one_reading words (codes "hash-password") (codes "hash-password") x y read read' in
+    ap HashPassword (one_password x a b password (subst (λ rows. IsPasswordBy rows b) same.1 password'))
+one words (Solo a) (HashPassword b) (x, read, setup) (y, read', password) = absurd (not_hash (one_reading words (codes "solo") (codes "hash-password") x y read read').0)
+one words (HashPassword a) (Solo b) (x, read, password) (y, read', setup) = absurd (not_hash (sym (one_reading words (codes "hash-password") (codes "solo") x y read read').0))
+one words (Drive a) (HashPassword b) (x, read, setup) (y, read', password) = absurd (drive_not_hash (one_reading words (codes "drive") (codes "hash-password") x y read read').0)
+one words (HashPassword a) (Drive b) (x, read, password) (y, read', setup) = absurd (drive_not_hash (sym (one_reading words (codes "hash-password") (codes "drive") x y read read').0))
+one words (Serve a) (HashPassword b) (x, read, service) (y, read', password) = absurd (serve_not_hash (one_reading words (codes "serve") (codes "hash-password") x y read read').0)
+one words (HashPassword a) (Serve b) (x, read, password) (y, read', service) = absurd (serve_not_hash (sym (one_reading words (codes "hash-password") (codes "serve") x y read read').0))
 
 among_none : (kind : ErrorKind) (kinds : Kinds) → kinds ≡ [] → IsAmong kind kinds → ⊥
 among_none kind [] none among = among
@@ -184,22 +217,38 @@ among_none kind (k ∷ ks) none among = cc
 
 -- words that are read with groups that none refuses have no refused pair
 no_refused_pair : (words : List Text) (name : Text) (rows : List Row) (groups : List Share) → AreReadAs words name rows → AddsEach [] (pairs_in rows) groups → HaveRefusedPair words → ⊥
-no_refused_pair words name rows groups read adds (name', rows', refusal, read', refused) =
+no_refused_pair words name rows groups read adds (name', rows', refusal, named, read', refused) =
     let same = one_reading words name name' rows rows' read read' in
     each_or_refused (pairs_in rows) [] groups refusal adds (subst (λ rows. RefusesOne [] (pairs_in rows) refusal) same.1 refused)
 
--- words that are read as another command do not ask for no service
+-- words that are read as a command without pairs have no refused pair
+no_pairs : (words : List Text) (name : Text) (rows : List Row) → AreReadAs words name rows → (codes "solo" ≡ name → ⊥) → (codes "drive" ≡ name → ⊥) → HaveRefusedPair words → ⊥
+no_pairs words name rows read not_solo not_drive (name', rows', refusal, inl is, read', refused) = not_solo (sym is ∙ (one_reading words name' name rows' rows read' read).0)
+no_pairs words name rows read not_solo not_drive (name', rows', refusal, inr is, read', refused) = not_drive (sym is ∙ (one_reading words name' name rows' rows read' read).0)
+
+-- words that are read as another command do not ask for no service, nor for no password
 other_command : (words : List Text) (name : Text) (rows : List Row) → AreReadAs words name rows → (name ≡ codes "serve" → ⊥) → HaveNoService words → ⊥
 other_command words name rows read differs (rows', read', none) = differs (one_reading words name (codes "serve") rows rows' read read').0
+
+no_hashing : (words : List Text) (name : Text) (rows : List Row) → AreReadAs words name rows → (name ≡ codes "hash-password" → ⊥) → HaveNoPassword words → ⊥
+no_hashing words name rows read differs (rows', read', none) = differs (one_reading words name (codes "hash-password") rows rows' read read').0
 
 pub exclusive : (words : List Text) (request : Request) (kind : ErrorKind) → AskFor words request → SpellNoRequest words kind → ⊥
 exclusive words (Solo setup) kind (rows, read, by) (inl fault) = among_none kind (fault_of command_line words) read.0 fault
 exclusive words (Solo setup) kind (rows, read, by) (inr (is, inl pair)) = no_refused_pair words (codes "solo") rows setup.groups read by.2 pair
-exclusive words (Solo setup) kind (rows, read, by) (inr (is, inr none)) = other_command words (codes "solo") rows read not_serve none
+exclusive words (Solo setup) kind (rows, read, by) (inr (is, inr (inl none))) = other_command words (codes "solo") rows read not_serve none
+exclusive words (Solo setup) kind (rows, read, by) (inr (is, inr (inr none))) = no_hashing words (codes "solo") rows read not_hash none
 exclusive words (Drive setup) kind (rows, read, by) (inl fault) = among_none kind (fault_of command_line words) read.0 fault
 exclusive words (Drive setup) kind (rows, read, by) (inr (is, inl pair)) = no_refused_pair words (codes "drive") rows setup.groups read by.2 pair
-exclusive words (Drive setup) kind (rows, read, by) (inr (is, inr none)) = other_command words (codes "drive") rows read drive_not_serve none
+exclusive words (Drive setup) kind (rows, read, by) (inr (is, inr (inl none))) = other_command words (codes "drive") rows read drive_not_serve none
+exclusive words (Drive setup) kind (rows, read, by) (inr (is, inr (inr none))) = no_hashing words (codes "drive") rows read drive_not_hash none
 exclusive words (Serve service) kind (rows, read, by) (inl fault) = among_none kind (fault_of command_line words) read.0 fault
 exclusive words (Serve service) kind (rows, read, by) (inr (is, inl pair)) = no_refused_pair words (codes "serve") rows service.groups read by.groups pair
-exclusive words (Serve service) kind (rows, read, by) (inr (is, inr (rows', read', none))) =
+exclusive words (Serve service) kind (rows, read, by) (inr (is, inr (inl (rows', read', none)))) =
     none service (subst (λ rows. IsServiceBy rows service) (sym (one_reading words (codes "serve") (codes "serve") rows rows' read read').1) by)
+exclusive words (Serve service) kind (rows, read, by) (inr (is, inr (inr none))) = no_hashing words (codes "serve") rows read serve_not_hash none
+exclusive words (HashPassword password) kind (rows, read, by) (inl fault) = among_none kind (fault_of command_line words) read.0 fault
+exclusive words (HashPassword password) kind (rows, read, by) (inr (is, inl pair)) = no_pairs words (codes "hash-password") rows read not_hash drive_not_hash pair
+exclusive words (HashPassword password) kind (rows, read, by) (inr (is, inr (inl none))) = other_command words (codes "hash-password") rows read (λ e. serve_not_hash (sym e)) none
+exclusive words (HashPassword password) kind (rows, read, by) (inr (is, inr (inr (rows', read', none)))) =
+    none password (subst (λ rows. IsPasswordBy rows password) (sym (one_reading words (codes "hash-password") (codes "hash-password") rows rows' read read').1) by)

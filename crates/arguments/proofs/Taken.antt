@@ -13,7 +13,7 @@ use Rattle.clap.specs.declared.error.kind.ErrorKind.TheVariants.{MissingSubcomma
 use Rattle.clap.specs.declared.error.Error.{Error}
 use Rattle.clap.specs.declared.parser.matches.ArgMatches.{ArgMatches, out-ArgMatches}
 use Rattle.clap.proofs.OnLiterals.{clap_on_literals}
-use Rattle.arguments.specs.CommandLine.{AreReadAs, SpellNoRequest, command_line, serve_command}
+use Rattle.arguments.specs.CommandLine.{AreReadAs, SpellNoRequest, command_line, password_command, serve_command}
 use Rattle.arguments.proofs.Faultless.{level_parts}
 use Rattle.arguments.proofs.Numbers.{HasNumbers, leaf, leaf_numbers, options}
 use Rattle.arguments.proofs.Stops.{IsNoHelp, walk_stop}
@@ -21,11 +21,11 @@ use Rattle.arguments.proofs.Stops.{IsNoHelp, walk_stop}
 abbrev line : App
 line = built command_line
 
--- a name is that of `solo` or `drive`, whose rows have the numbers, or that of `serve`
+-- a name is that of `solo` or `drive`, whose rows have the numbers, that of `serve`, or that of `hash-password`
 abbrev pub IsNamed : Text → List Row → Type 0
-IsNamed name rows = (((name ≡ codes "solo") ⊎ (name ≡ codes "drive")) × HasNumbers rows) ⊎ (name ≡ codes "serve")
+IsNamed name rows = (((name ≡ codes "solo") ⊎ (name ≡ codes "drive")) × HasNumbers rows) ⊎ ((name ≡ codes "serve") ⊎ (name ≡ codes "hash-password"))
 
--- one of the three commands
+-- one of the four commands
 abbrev IsCommand : Option (Text × List Row) → Type 0
 IsCommand o = (name : Text) × (rows : List Row) × (o ≡ Some (name, rows)) × IsNamed name rows
 
@@ -33,21 +33,26 @@ IsCommand o = (name : Text) × (rows : List Row) × (o ≡ Some (name, rows)) ×
 abbrev serve : Shape
 serve = built_leaf (inherited (with_leaf_noted (marked_built command_line.top)) serve_command.top)
 
-abbrev chosen : Bool → Bool → Bool → Bool → Option Shape
-chosen solo drive serves help = cond (solo || false) (Some (leaf (codes "solo")))
-    (cond (drive || false) (Some (leaf (codes "drive"))) (cond (serves || false) (Some serve) (cond (help || false) (Some (built_leaf help_shape)) None)))
+-- `hash-password` as it is built
+abbrev hash_password : Shape
+hash_password = built_leaf (inherited (with_leaf_noted (marked_built command_line.top)) password_command.top)
+
+abbrev chosen : Bool → Bool → Bool → Bool → Bool → Option Shape
+chosen solo drive serves hashes help = cond (solo || false) (Some (leaf (codes "solo")))
+    (cond (drive || false) (Some (leaf (codes "drive"))) (cond (serves || false) (Some serve) (cond (hashes || false) (Some hash_password) (cond (help || false) (Some (built_leaf help_shape)) None))))
 
 enters : (stop : Option (Text × List Text)) → IsNoHelp stop → entered_fault line stop ≡ [] → is_some (entered line stop) ≡ true → IsCommand (entered line stop)
 enters None good e some = cc
-enters (Some p) good e some = go (bytes_eq (codes "solo") p.0) (bytes_eq (codes "drive") p.0) (bytes_eq (codes "serve") p.0) (bytes_eq (codes "help") p.0) refl e some
+enters (Some p) good e some = go (bytes_eq (codes "solo") p.0) (bytes_eq (codes "drive") p.0) (bytes_eq (codes "serve") p.0) (bytes_eq (codes "hash-password") p.0) (bytes_eq (codes "help") p.0) refl e some
   where
-    go : (a b c d : Bool) → bytes_eq (codes "help") p.0 ≡ d → option_map_or (λ s. level_fault s [] nothing_held p.1 false []) (chosen a b c d) [] ≡ []
-        → is_some (option_map (λ s. rows_at s p.1) (chosen a b c d)) ≡ true → IsCommand (option_map (λ s. rows_at s p.1) (chosen a b c d))
-    go true b c d is e some = (codes "solo", rows_after options [] p.1, refl, inl (inl refl, leaf_numbers (codes "solo") p.1 e))
-    go false true c d is e some = (codes "drive", rows_after options [] p.1, refl, inl (inr refl, leaf_numbers (codes "drive") p.1 e))
-    go false false true d is e some = (codes "serve", rows_after serve.rules [] p.1, refl, inr refl)
-    go false false false true is e some = absurd (good (sym ((bytes_eq-Decides (codes "help") p.0).0 is)))
-    go false false false false is e some = cc
+    go : (a b c d f : Bool) → bytes_eq (codes "help") p.0 ≡ f → option_map_or (λ s. level_fault s [] nothing_held p.1 false []) (chosen a b c d f) [] ≡ []
+        → is_some (option_map (λ s. rows_at s p.1) (chosen a b c d f)) ≡ true → IsCommand (option_map (λ s. rows_at s p.1) (chosen a b c d f))
+    go true b c d f is e some = (codes "solo", rows_after options [] p.1, refl, inl (inl refl, leaf_numbers (codes "solo") p.1 e))
+    go false true c d f is e some = (codes "drive", rows_after options [] p.1, refl, inl (inr refl, leaf_numbers (codes "drive") p.1 e))
+    go false false true d f is e some = (codes "serve", rows_after serve.rules [] p.1, refl, inr (inl refl))
+    go false false false true f is e some = (codes "hash-password", rows_after hash_password.rules [] p.1, refl, inr (inr refl))
+    go false false false false true is e some = absurd (good (sym ((bytes_eq-Decides (codes "help") p.0).0 is)))
+    go false false false false false is e some = cc
 
 wanted : (has : Bool) (rows : List Row) → check_fault line.top rows has ≡ [] → has ≡ true
 wanted true rows e = refl
@@ -55,7 +60,7 @@ wanted false rows e =
     let bad : MissingSubcommand ∷ [] ≡ [] = e in
     cc
 
--- words without a fault name one of the three commands
+-- words without a fault name one of the four commands
 taken : (words : List Text) → fault_of command_line words ≡ [] → IsCommand (subcommand_of command_line words)
 taken words e =
     let stop = (walk line.top.rules (names_of line) nothing_held (drop 1 words)).stopped in
@@ -129,7 +134,7 @@ same_pair o a b x y e f =
       sym (ap (λ (o : Option (Text × List Row)). (unwrap_or o (a, x)).1) both),
     )
 
--- it is one of the three commands
+-- it is one of the four commands
 pub command_facts : (words : List Text) (name : Text) (rows : List Row) → AreReadAs words name rows → IsNamed name rows
 command_facts words name rows (faultless, is) = go (taken words faultless)
   where

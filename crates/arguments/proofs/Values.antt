@@ -1,8 +1,9 @@
 -- What the getters of clap read of the options of `serve`.
 use Rattle.std.proofs.Common.{◌≡◌, ◌∙◌, ◌<◌, ◌^◌, ℕ, Bool, true, false, List, Option, Some, None, Result, Ok, Err, ap, codes, refl, sym, subst}
-use Rattle.std.specs.Prelude.{unwrap_or}
+use Rattle.std.specs.Prelude.{if◌then◌else◌, unwrap_or}
 use Rattle.std.specs.Str.Parse.{ParsesUnsigned, digits_value, without_leading_plus}
 use Rattle.clap.specs.Words.{ReadsOne, Text}
+use Rattle.users.specs.Lines.{is_user_name}
 use Rattle.broker_log.specs.declared.level.Level.{Level}
 use Rattle.broker_log.specs.declared.level.Level.TheVariants as levels
 use Rattle.arguments.specs.Options.{Spells}
@@ -56,3 +57,19 @@ spelled_read G text number read only spelled small = only text (Err read.0) read
 -- a text spells one number
 pub spelled_once : (a b : Text) (first second : ℕ) → a ≡ b → Spells a first → Spells b second → first ≡ second
 spelled_once a b first second same h i = h.1 ∙ ap (λ (text : Text). digits_value 10 (without_leading_plus text)) same ∙ sym i.1
+
+-- a name that was made of a text is that text, and a user's
+pub name_kept : (text name : Text) → Some name ≡ (if is_user_name text then Some text else None) → (is_user_name text ≡ true) × (name ≡ text)
+name_kept text name made = go (is_user_name text) made
+  where
+    go : (b : Bool) → Some name ≡ (if b then Some text else None) → (b ≡ true) × (name ≡ text)
+    go true is = (refl, ap (λ (o : Option Text). unwrap_or o name) is)
+    go false is = cc
+
+-- a text of which none was made is no user's
+pub name_refused : (text : Text) → None ≡ (if is_user_name text then Some text else None) → is_user_name text ≡ true → ⊥
+name_refused text none valid = go (is_user_name text) none valid
+  where
+    go : (b : Bool) → None ≡ (if b then Some text else None) → b ≡ true → ⊥
+    go true is e = cc
+    go false is e = cc

@@ -132,6 +132,29 @@ max_keep_alive_option = record (new_rule (codes "max-keep-alive")) {
   parser = Some (Signed (pos 1) (pos 65535));
 }
 
+-- `--users FILE`, at most once: a text
+abbrev pub users_option : Rule
+users_option = record (new_rule (codes "users")) {
+  long = Some (codes "users");
+  value_names = 1;
+}
+
+-- `NAME`, which has to be given: a text
+abbrev pub name_option : Rule
+name_option = record (new_rule (codes "name")) {
+  value_names = 1;
+  required = true;
+}
+
+-- `--iterations N`, at most once: a number from 1 to 1000000, and 1000 where it is not given
+abbrev pub iterations_option : Rule
+iterations_option = record (new_rule (codes "iterations")) {
+  long = Some (codes "iterations");
+  value_names = 1;
+  parser = Some (Signed (pos 1) (pos 1000000));
+  defaults = codes "1000" ∷ [];
+}
+
 -- ---- the values that they have
 
 -- a text spells a number in decimal digits, after a plus or none

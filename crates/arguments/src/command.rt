@@ -2,12 +2,14 @@
 ghost use Rattle.std.specs.Prelude.{◌≡◌, ◌⊎◌, IfOk, IfErr, map};
 ghost use Rattle.std.specs.String.{string_bytes};
 ghost use Rattle.clap.specs.Words.{app_of, kind_of};
-ghost use Rattle.arguments.specs.CommandLine.{command_line, command_named, serve_command, AskFor, SpellNoRequest};
+ghost use Rattle.arguments.specs.CommandLine.{command_line, command_named, password_command, serve_command, AskFor, SpellNoRequest};
 
+use crate::hashing::password_of;
 use crate::options::{
-    address, capacity, declared_groups, drain, group, keep_parked, log, max_expiry, max_inflight,
-    max_keep_alive, metrics, per_address, port, until, workers,
+    address, capacity, declared_groups, drain, group, iterations, keep_parked, log, max_expiry,
+    max_inflight, max_keep_alive, metrics, name, per_address, port, until, users, workers,
 };
+use crate::password::PasswordOptions;
 use crate::service::ServeOptions;
 use crate::serving::service_of;
 use crate::setup::setup_of;
@@ -25,13 +27,15 @@ pub enum Request {
     Drive(Setup),
     /// A broker on TCP.
     Serve(ServeOptions),
+    /// The line of a user.
+    HashPassword(PasswordOptions),
 }
 
 /// What the words of a command line ask for, the program's name in front.
 ///
 /// # Errors
 ///
-/// The text of a fault, of the help, or of the version, as clap has them; of a `--group` that is refused the text names it, and says why.
+/// The text of a fault, of the help, or of the version, as clap has them; of a `--group` or a `NAME` that is refused the text names it, and says why.
 /// [`ErrorKind::OutOfMemory`] for lack of memory.
 pub fn arguments(alloc: Global, words: &[String]) -> Result<Request, Error>
     ensures ok { IfOk result (AskFor (map string_bytes words.now)) }
@@ -45,6 +49,10 @@ pub fn arguments(alloc: Global, words: &[String]) -> Result<Request, Error>
     if name == "serve" {
         let service = service_of(alloc, options)?;
         return Ok(Request::Serve(service));
+    }
+    if name == "hash-password" {
+        let password = password_of(alloc, options)?;
+        return Ok(Request::HashPassword(password));
     }
     let setup = setup_of(alloc, name, options)?;
     if name == "drive" {
@@ -82,13 +90,15 @@ fn command<'a>(alloc: Global) -> Result<Command<'a>, AllocError>
         "Runs the events on standard input, one a line, over up to 64 connections",
     )?;
     let serve = serve_command(alloc)?;
+    let password = password_command(alloc)?;
     Command::new(alloc, "share_broker")
         .about("A dispatcher for MQTT 5.0 shared subscriptions")
         .version("0.1.0")
         .subcommand_required(true)
         .subcommand(solo)?
         .subcommand(drive)?
-        .subcommand(serve)
+        .subcommand(serve)?
+        .subcommand(password)
 }
 
 /// A command with the three options of a server.
@@ -106,7 +116,7 @@ pub(crate) fn command_named<'a>(
         .arg(group(alloc))
 }
 
-/// `serve` and its fifteen options.
+/// `serve` and its sixteen options.
 pub(crate) fn serve_command<'a>(alloc: Global) -> Result<Command<'a>, AllocError>
     ensures { IfOk result (λ command. app_of command ≡ serve_command) }
 {
@@ -126,7 +136,20 @@ pub(crate) fn serve_command<'a>(alloc: Global) -> Result<Command<'a>, AllocError
         .arg(per_address(alloc))?
         .arg(max_expiry(alloc))?
         .arg(max_keep_alive(alloc))?
+        .arg(users(alloc))?
         .arg(capacity(alloc))?
         .arg(max_inflight(alloc))?
         .arg(group(alloc))
+}
+
+/// `hash-password`, its name and its option.
+pub(crate) fn password_command<'a>(alloc: Global) -> Result<Command<'a>, AllocError>
+    ensures { IfOk result (λ command. app_of command ≡ password_command) }
+{
+    Command::new(alloc, "hash-password")
+        .about(
+            "Writes the line of a user for the file of serve --users; the password is the first line of standard input",
+        )
+        .arg(name(alloc))?
+        .arg(iterations(alloc))
 }

@@ -8,11 +8,16 @@
 
 mod command;
 mod groups;
+mod hashing;
 pub mod laws;
 mod options;
+mod password;
 mod service;
 mod serving;
 mod setup;
+mod texts;
 
 pub use command::{Request, arguments};
+pub use password::PasswordOptions;
 pub use service::{ServeOptions, ServeUntil};
+pub use texts::{FilePath, UserName};

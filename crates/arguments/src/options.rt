@@ -1,7 +1,7 @@
 //! The options of the commands.
 ghost use Rattle.std.specs.Prelude.{◌≡◌};
 ghost use Rattle.clap.specs.Words.{rule_of};
-ghost use Rattle.arguments.specs.Options.{address_option, capacity_option, declared_groups_option, drain_option, group_option, keep_parked_option, log_option, max_expiry_option, max_inflight_option, max_keep_alive_option, metrics_option, per_address_option, port_option, until_option, workers_option};
+ghost use Rattle.arguments.specs.Options.{address_option, capacity_option, declared_groups_option, drain_option, group_option, keep_parked_option, log_option, max_expiry_option, max_inflight_option, max_keep_alive_option, metrics_option, iterations_option, name_option, per_address_option, port_option, until_option, users_option, workers_option};
 
 use clap::{Arg, ArgAction, value_parser};
 use std::alloc::Global;
@@ -64,7 +64,7 @@ pub(crate) fn address<'a>(alloc: Global) -> Arg<'a>
         .value_name("IP")
         .default_value("127.0.0.1")
         .help(
-            "The IPv4 address of this machine to listen at, or 0.0.0.0 for each of them. Nobody is asked for a password",
+            "The IPv4 address of this machine to listen at, or 0.0.0.0 for each of them. Without --users nobody is asked for a password",
         )
 }
 
@@ -195,5 +195,43 @@ pub(crate) fn max_keep_alive<'a>(alloc: Global) -> Arg<'a>
         .value_parser(value_parser!(u32).range(1..=65_535))
         .help(
             "The longest Keep Alive of a client, 1 to 65535 seconds: one that asks for a longer one, or for none, has this one, as the Server Keep Alive of CONNACK says; without this option there is no limit",
+        )
+}
+
+/// `--users FILE`.
+pub(crate) fn users<'a>(alloc: Global) -> Arg<'a>
+    ensures { rule_of result ≡ users_option }
+{
+    Arg::new(alloc, "users")
+        .long("users")
+        .value_name("FILE")
+        .help(
+            "A file with a line for each user, as hash-password makes it: only clients with the User Name and the Password of one are served, and every other gets CONNACK 0x86 (Bad User Name or Password); without this option all are",
+        )
+}
+
+/// `NAME`.
+pub(crate) fn name<'a>(alloc: Global) -> Arg<'a>
+    ensures { rule_of result ≡ name_option }
+{
+    Arg::new(alloc, "name")
+        .value_name("NAME")
+        .required(true)
+        .help(
+            "The User Name: 1 to 128 bytes, without a colon or a control character, and with no # in front",
+        )
+}
+
+/// `--iterations N`.
+pub(crate) fn iterations<'a>(alloc: Global) -> Arg<'a>
+    ensures { rule_of result ≡ iterations_option }
+{
+    Arg::new(alloc, "iterations")
+        .long("iterations")
+        .value_name("N")
+        .value_parser(value_parser!(u32).range(1..=1_000_000))
+        .default_value("1000")
+        .help(
+            "How often the password is hashed, 1 to 1000000: a password is harder to guess from the file then, and each CONNECT takes longer",
         )
 }

@@ -1,8 +1,9 @@
 //! What a broker on TCP begins with.
 ghost use Rattle.std.specs.Prelude.{◌≤◌};
 
+use crate::texts::FilePath;
 use broker_log::Level;
-use conn_rules::{ClientLimits, QueueCapacity};
+use conn_rules::{ExpiryLimit, KeepAliveLimit, MaxInflight, QueueCapacity};
 use mqtt_topic::Routes;
 use std::net::Ipv4Addr;
 
@@ -38,10 +39,16 @@ pub struct ServeOptions {
     pub declared_groups: bool,
     /// How many connections an address may have at once, 0 to 65535; at 0 as many as there are.
     pub per_address: u32,
-    /// What it grants a client at most.
-    pub limits: ClientLimits,
+    /// For how many seconds the session of a client outlives its connection at most, if that is limited.
+    pub max_expiry: Option<ExpiryLimit>,
+    /// The seconds of a keep alive at most, if they are limited.
+    pub max_keep_alive: Option<KeepAliveLimit>,
+    /// The file with its users, if only their clients are served.
+    pub users: Option<FilePath>,
     /// How many messages may wait in the queue of each group.
     pub capacity: QueueCapacity,
+    /// How many PUBLISH packets a client has unacknowledged at most.
+    pub max_inflight: MaxInflight,
     /// The shares that are bound from the start, each to the slot of its group.
     pub groups: Routes,
     ghost few: { (1 ≤ workers) × (workers ≤ 64) },

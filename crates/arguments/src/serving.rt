@@ -10,9 +10,10 @@ use crate::command::{refused_value, serve_command};
 use crate::groups::groups_of;
 use crate::service::{ServeOptions, ServeUntil};
 use crate::setup::{capacity_of, limit_of};
+use crate::texts::FilePath;
 use broker_log::Level;
 use clap::{ArgMatches, Error};
-use conn_rules::{ClientLimits, ExpiryLimit, KeepAliveLimit, QueueCapacity};
+use conn_rules::{ExpiryLimit, KeepAliveLimit, MaxInflight, QueueCapacity};
 use std::alloc::{AllocError, Global};
 use std::net::Ipv4Addr;
 
@@ -24,8 +25,10 @@ struct Numbers {
     drain: u32,
     metrics: u16,
     per_address: u32,
-    limits: ClientLimits,
+    max_expiry: Option<ExpiryLimit>,
+    max_keep_alive: Option<KeepAliveLimit>,
     capacity: QueueCapacity,
+    max_inflight: MaxInflight,
 }
 
 /// What a broker begins with, by the options.
@@ -56,6 +59,7 @@ pub(crate) fn service_of(alloc: Global, options: &ArgMatches) -> Result<ServeOpt
     let Some(declared_groups) = flag_of(options, "declared-groups") else {
         return Err(wrong(alloc, "--declared-groups has no value")?);
     };
+    let users = users_of(alloc, options)?;
     match groups_of(alloc, options.get_strs("group").unwrap_or(&[]))? {
         Ok(groups) => Ok(ServeOptions {
             address,
@@ -68,8 +72,11 @@ pub(crate) fn service_of(alloc: Global, options: &ArgMatches) -> Result<ServeOpt
             keep_parked,
             declared_groups,
             per_address: numbers.per_address,
-            limits: numbers.limits,
+            max_expiry: numbers.max_expiry,
+            max_keep_alive: numbers.max_keep_alive,
+            users,
             capacity: numbers.capacity,
+            max_inflight: numbers.max_inflight,
             groups,
         }),
         Err(refused) => Err(wrong(alloc, refused.text.as_str())?),
@@ -124,6 +131,16 @@ fn level_of(options: &ArgMatches) -> Option<Level>
     }
 }
 
+/// The file with the users, where one is given.
+fn users_of(alloc: Global, options: &ArgMatches) -> Result<Option<FilePath>, AllocError>
+    ensures { IfOk result (λ users. first_of (codes "users") (rows_of (found_of options.now)) ≡ users) }
+{
+    match options.get_str("users") {
+        Some(path) => Ok(Some(FilePath::new(alloc, path)?)),
+        None => Ok(None),
+    }
+}
+
 /// The numbers that the options have, where each is in its range.
 fn numbers_of(options: &ArgMatches) -> Option<Numbers>
     ensures { MatchOption result
@@ -133,10 +150,10 @@ fn numbers_of(options: &ArgMatches) -> Option<Numbers>
         × HasNumber (codes "drain") 0 86400 (rows_of (found_of options.now)) numbers.drain
         × HasNumber (codes "metrics") 0 65535 (rows_of (found_of options.now)) numbers.metrics
         × HasNumber (codes "per-address") 0 65535 (rows_of (found_of options.now)) numbers.per_address
-        × HasNumberIf (codes "max-expiry") 1 4294967295 (rows_of (found_of options.now)) numbers.limits.max_expiry
-        × HasNumberIf (codes "max-keep-alive") 1 65535 (rows_of (found_of options.now)) numbers.limits.max_keep_alive
+        × HasNumberIf (codes "max-expiry") 1 4294967295 (rows_of (found_of options.now)) numbers.max_expiry
+        × HasNumberIf (codes "max-keep-alive") 1 65535 (rows_of (found_of options.now)) numbers.max_keep_alive
         × HaveCapacity (rows_of (found_of options.now)) numbers.capacity
-        × HaveMaxInflight (rows_of (found_of options.now)) numbers.limits.max_inflight) }
+        × HaveMaxInflight (rows_of (found_of options.now)) numbers.max_inflight) }
 {
     let port = number(options, "port", 0, 65_535)?;
     let workers = number(options, "workers", 1, 64)?;
@@ -153,12 +170,10 @@ fn numbers_of(options: &ArgMatches) -> Option<Numbers>
         drain,
         metrics: metrics as u16,
         per_address,
-        limits: ClientLimits {
-            max_inflight: limit_of(packets),
-            max_expiry: expiry_of(max_expiry),
-            max_keep_alive: keep_alive_of(max_keep_alive),
-        },
+        max_expiry: expiry_of(max_expiry),
+        max_keep_alive: keep_alive_of(max_keep_alive),
         capacity: capacity_of(messages),
+        max_inflight: limit_of(packets),
     })
 }
 
@@ -185,7 +200,7 @@ fn keep_alive_of(seconds: Option<u32>) -> Option<KeepAliveLimit>
 }
 
 /// The number in this range that an option has, as it was given or is left out.
-fn number(options: &ArgMatches, id: &str, least: u32, most: u32) -> Option<u32>
+pub(crate) fn number(options: &ArgMatches, id: &str, least: u32, most: u32) -> Option<u32>
     ensures { MatchOption result
         ((number : ℕ) → ¬ HasNumber id.now least most (rows_of (found_of options.now)) number)
         (HasNumber id.now least most (rows_of (found_of options.now))) }

@@ -4,7 +4,7 @@ use Rattle.hex.specs.Hex.{decode_of}
 use Rattle.hex.specs.declared.error.FromHexError.{FromHexError}
 use Rattle.text_io.specs.Lines.{lines_of}
 use Rattle.text_io.specs.declared.error.RunError.{RunError}
-use Rattle.text_io.specs.declared.error.RunError.TheVariants.{ReadFailed, TooManyReads, WriteFailed, Network, Memory, TooFewDescriptors, Unfinished, Line}
+use Rattle.text_io.specs.declared.error.RunError.TheVariants.{ReadFailed, TooManyReads, WriteFailed, Network, UsersUnread, NoRandomBytes, Memory, TooFewDescriptors, Unfinished, Line, UsersLine}
 use Rattle.local_server.specs.declared.event.ServerEvent.{ServerEvent}
 use Rattle.local_server.specs.declared.event.ServerEvent.TheVariants.{Open, Bytes, Tick, End, Close}
 use Rattle.local_server.specs.declared.event.TimedEvent.{TimedEvent}
@@ -76,4 +76,7 @@ NamesBadLine script Unfinished = ⊥
 NamesBadLine script (WriteFailed fault) = ⊥
 NamesBadLine script TooFewDescriptors = ⊥
 NamesBadLine script Memory = Unit {0}
+NamesBadLine script UsersUnread = ⊥
+NamesBadLine script NoRandomBytes = ⊥
+NamesBadLine script (UsersLine number) = ⊥
 NamesBadLine script (Line number) = script ≡ Err number

@@ -3,7 +3,7 @@ use Rattle.std.proofs.Common.{◌≡◌, ℕ, List, Option, Some, None, Result, 
 use Rattle.std.specs.Io.KnownBytes.{Keeps}
 use Rattle.text_io.specs.declared.error.DeviceFault.{DeviceFault}
 use Rattle.text_io.specs.declared.error.RunError.{RunError}
-use Rattle.text_io.specs.declared.error.RunError.TheVariants.{ReadFailed, TooManyReads, WriteFailed, Network, Memory, TooFewDescriptors, Unfinished, Line}
+use Rattle.text_io.specs.declared.error.RunError.TheVariants.{ReadFailed, TooManyReads, WriteFailed, Network, UsersUnread, NoRandomBytes, Memory, TooFewDescriptors, Unfinished, Line, UsersLine}
 use Rattle.text_io.specs.Status.{IsOfWriting}
 use Rattle.drive.specs.Transcripts.{Writes, BeginsTo}
 use Rattle.program.specs.Ending.{Wrote}
@@ -21,6 +21,9 @@ module _ (IsOutput : List ℕ → List ℕ → Type 0) (IsBadLine : List ℕ →
   wrote (Some input) (Err TooManyReads) old new whole bad begun kept = kept (λ of. of)
   wrote (Some input) (Err (WriteFailed fault)) old new whole bad begun kept = begun fault refl
   wrote (Some input) (Err (Network fault)) old new whole bad begun kept = kept (λ of. of)
+  wrote (Some input) (Err UsersUnread) old new whole bad begun kept = kept (λ of. of)
+  wrote (Some input) (Err NoRandomBytes) old new whole bad begun kept = kept (λ of. of)
+  wrote (Some input) (Err (UsersLine number)) old new whole bad begun kept = kept (λ of. of)
   wrote (Some input) (Err TooFewDescriptors) old new whole bad begun kept = kept (λ of. of)
   wrote (Some input) (Err Unfinished) old new whole bad begun kept = kept (λ of. of)
   wrote (Some input) (Err Memory) old new whole bad begun kept = kept (λ of. of)

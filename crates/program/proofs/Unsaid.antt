@@ -8,8 +8,10 @@ use Rattle.broker_log.proofs.Logging.{begun_nothing}
 use Rattle.arguments.specs.declared.service.ServeOptions.{ServeOptions}
 use Rattle.arguments.specs.declared.service.ServeUntil.{ServeUntil}
 use Rattle.arguments.specs.declared.service.ServeUntil.TheVariants.{Stdin, Killed}
+use Rattle.conn_rules.specs.declared.limits.ClientLimits.{ClientLimits}
+use Rattle.text_io.specs.declared.error.RunError.{RunError}
 use Rattle.text_io.specs.declared.error.RunError.TheVariants.{Memory}
-use Rattle.program.specs.Ending.{HasRead, IsLoggedFor, IsLoggedUnread, IsServedFor}
+use Rattle.program.specs.Ending.{HasRead, IsLoggedFor, IsLoggedUnread, IsServedWith}
 
 -- nothing was said
 pub unsaid : (until : ServeUntil) (level : Level) (known : Option (List ℕ)) → IsLoggedFor until level known known
@@ -31,12 +33,12 @@ some_port zero = (1, (omega arith, λ differs. absurd (differs refl)))
 some_port (suc n) = (suc n, (omega arith, λ differs. refl))
 
 -- memory was refused before it listened, and nothing was written
-pub unserved : (service : ServeOptions) (known : Option (List ℕ)) → IsServedFor service (Err Memory) known known
-unserved service known =
+pub unserved : (service : ServeOptions) (limits : ClientLimits) (known : Option (List ℕ)) → IsServedWith service limits (Err Memory) known known
+unserved service limits known =
     let (port, is) = some_port service.port in
     record { served = inl (port, is, inl (inl (Keeps-refl known))) }
 
--- memory was refused before it read, and nothing was read
-pub unread : (until : ServeUntil) (known : Option (List ℕ)) → HasRead until (Err Memory) known known
-unread Stdin known = tt
-unread Killed known = (Keeps-refl known, refl)
+-- there was an error before it read, and nothing was read
+pub unread : (until : ServeUntil) (error : RunError) (known : Option (List ℕ)) → HasRead until (Err error) known known
+unread Stdin error known = tt
+unread Killed error known = (Keeps-refl known, refl)

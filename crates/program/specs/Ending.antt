@@ -1,9 +1,12 @@
 -- How the program ends: its status, and what then stands in its output and on its error output (profile).
-use Rattle.std.specs.Prelude.{◌≡◌, ◌⊎◌, ℕ, List, Option, Result, Ok, Err, IfOk, IfSome, IsErr, string_bytes}
+use Rattle.std.specs.Prelude.{◌≡◌, ◌⊎◌, ℕ, List, Option, Result, Ok, Err, IfOk, IfSome, IsErr, IsErrAnd, string_bytes}
 use Rattle.std.specs.Io.KnownBytes.{Appends, IsAtEnd, Keeps}
+use Rattle.users.specs.Table.{UserTable}
+use Rattle.conn_rules.specs.declared.limits.ClientLimits.{ClientLimits}
 use Rattle.conn_rules.specs.declared.setup.Setup.{Setup}
 use Rattle.arguments.specs.declared.command.Request.{Request}
-use Rattle.arguments.specs.declared.command.Request.TheVariants.{Solo, Drive, Serve}
+use Rattle.arguments.specs.declared.command.Request.TheVariants.{Solo, Drive, Serve, HashPassword}
+use Rattle.arguments.specs.declared.password.PasswordOptions.{PasswordOptions}
 use Rattle.arguments.specs.declared.service.ServeOptions.{ServeOptions}
 use Rattle.arguments.specs.declared.service.ServeUntil.{ServeUntil}
 use Rattle.arguments.specs.declared.service.ServeUntil.TheVariants.{Stdin, Killed}
@@ -11,7 +14,7 @@ use Rattle.broker_log.specs.declared.level.Level.{Level}
 use Rattle.broker_log.specs.declared.level.Level.TheVariants as levels
 use Rattle.broker_log.specs.Lines.{BeginsToLog}
 use Rattle.text_io.specs.declared.error.RunError.{RunError}
-use Rattle.text_io.specs.declared.error.RunError.TheVariants.{ReadFailed, TooManyReads, WriteFailed, Network, Memory, TooFewDescriptors, Unfinished, Line}
+use Rattle.text_io.specs.declared.error.RunError.TheVariants.{ReadFailed, TooManyReads, WriteFailed, Network, UsersUnread, NoRandomBytes, Memory, TooFewDescriptors, Unfinished, Line, UsersLine}
 use Rattle.text_io.specs.Status.{status_of, error_line, IsOfWriting}
 use Rattle.text_io.specs.Passing.{Begins}
 use Rattle.drive.specs.Scripts.{script_of}
@@ -23,6 +26,8 @@ use Rattle.program.specs.declared.ending.Exit.{Exit}
 use Rattle.program.specs.declared.asking.Asked.{Asked}
 use Rattle.program.specs.declared.asking.Asked.TheVariants.{Run, Show, Refuse}
 use Rattle.program.specs.Asking.{Asks}
+use Rattle.program.specs.Hashing.{IsUserOutput, password_in}
+use Rattle.program.specs.Users.{AreUsersFor, LacksUsers}
 
 -- What is known of the bytes that are left to read, of those in the output, and of those on the error output.
 pub record Streams : Type 0 where
@@ -53,10 +58,13 @@ Wrote IsOutput IsBadLine (Err ReadFailed) old new = Keeps old new
 Wrote IsOutput IsBadLine (Err TooManyReads) old new = Keeps old new
 Wrote IsOutput IsBadLine (Err (WriteFailed fault)) old new = BeginsTo IsOutput old new
 Wrote IsOutput IsBadLine (Err (Network fault)) old new = Keeps old new
+Wrote IsOutput IsBadLine (Err UsersUnread) old new = Keeps old new
+Wrote IsOutput IsBadLine (Err NoRandomBytes) old new = Keeps old new
 Wrote IsOutput IsBadLine (Err Memory) old new = Keeps old new
 Wrote IsOutput IsBadLine (Err TooFewDescriptors) old new = Keeps old new
 Wrote IsOutput IsBadLine (Err Unfinished) old new = Keeps old new
 Wrote IsOutput IsBadLine (Err (Line number)) old new = IsBadLine number × Keeps old new
+Wrote IsOutput IsBadLine (Err (UsersLine number)) old new = Keeps old new
 
 -- `solo` and `drive` wrote what they define for the input
 abbrev pub WroteSolo : Setup → List ℕ → Result (Unit {0}) RunError → Option (List ℕ) → Option (List ℕ) → Type 0
@@ -65,10 +73,28 @@ WroteSolo setup input = Wrote (solo.IsOutputFor setup input) (λ line. stream_of
 abbrev pub WroteDrive : Setup → List ℕ → Result (Unit {0}) RunError → Option (List ℕ) → Option (List ℕ) → Type 0
 WroteDrive setup input = Wrote (IsDriveOutput setup input) (λ line. script_of input ≡ Err line)
 
--- A broker was served at the port, with groups of the capacity, with the workers, the limits and the shares that were asked for: what it
+-- `hash-password` wrote the line of a user with the password that is the first line of the input
+abbrev pub WroteUser : PasswordOptions → List ℕ → Result (Unit {0}) RunError → Option (List ℕ) → Option (List ℕ) → Type 0
+WroteUser password input = Wrote (IsUserOutput password input) (λ line. password_in input ≡ Err line)
+
+-- the limits that were asked for, and these users
+abbrev pub limits_of : ServeOptions → Option UserTable → ClientLimits
+limits_of service users = record { max_inflight = service.max_inflight; max_expiry = service.max_expiry; max_keep_alive = service.max_keep_alive; users = users }
+
+-- A broker was served at the port, with groups of the capacity, with the workers and the shares that were asked for, and with these limits: what it
 -- wrote by how it ended is in the output.
-pub record IsServedFor (service : ServeOptions) (ended : Result (Unit {0}) RunError) (old new : Option (List ℕ)) : Type 0 where
-  pub served : IsServedAt service.port service.capacity service.workers service.limits service.groups ended old new
+pub record IsServedWith (service : ServeOptions) (limits : ClientLimits) (ended : Result (Unit {0}) RunError) (old new : Option (List ℕ)) : Type 0 where
+  pub served : IsServedAt service.port service.capacity service.workers limits service.groups ended old new
+
+-- a broker was served with the limits and the users that were asked for
+pub record HasServed (service : ServeOptions) (ended : Result (Unit {0}) RunError) (old new : Option (List ℕ)) : Type 0 where
+  pub users : Option UserTable
+  pub are_asked_for : AreUsersFor service.users users
+  pub served : IsServedWith service (limits_of service users) ended old new
+
+-- A broker was served as was asked for; or the file gave no users, and none was served: nothing was written.
+abbrev pub IsServedFor : ServeOptions → Result (Unit {0}) RunError → Option (List ℕ) → Option (List ℕ) → Type 0
+IsServedFor service ended old new = HasServed service ended old new ⊎ (IsErrAnd ended (LacksUsers service.users) × Keeps old new)
 
 -- What a broker read of the input, of which this is left. Until standard input ends: it ended with no error only where that had ended. Until it
 -- is killed: nothing, and it did not end but with an error.
@@ -86,6 +112,7 @@ abbrev pub Did : Request → Result (Unit {0}) RunError → Option (List ℕ) �
 Did (Solo setup) ended input left old new = IfSome input (λ given. WroteSolo setup given ended old new)
 Did (Drive setup) ended input left old new = IfSome input (λ given. WroteDrive setup given ended old new)
 Did (Serve service) ended input left old new = Served service ended input left old new
+Did (HashPassword password) ended input left old new = IfSome input (λ given. WroteUser password given ended old new)
 
 -- What a broker's log wrote on the error output: its lines, of which the last may be a beginning, where writing it failed. A log that is off has no line but the one that says that
 -- standard input was at its end as the broker began to read it, and none of a broker that is to serve until it is killed.
@@ -104,6 +131,7 @@ abbrev pub HasSaid : Request → Option (List ℕ) → Option (List ℕ) → Typ
 HasSaid (Solo setup) old new = new ≡ old
 HasSaid (Drive setup) old new = new ≡ old
 HasSaid (Serve service) old new = IsLoggedFor service.until service.log old new
+HasSaid (HashPassword password) old new = new ≡ old
 
 -- A command came to its end, or to an error, which is told after what it said.
 pub record RunEnds (request : Request) (old new : Streams) (exit : Exit) : Type 0 where

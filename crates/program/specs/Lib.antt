@@ -1,2 +1,4 @@
 pub mod Asking
 pub mod Ending
+pub mod Hashing
+pub mod Users

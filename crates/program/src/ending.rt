@@ -3,6 +3,7 @@ ghost use Rattle.std.specs.Prelude.{◌≡◌, map, string_bytes};
 ghost use Rattle.program.specs.Ending.{Did, Ends, EndsAsAsked, HasSaid, Tells, status_at};
 
 use crate::asking::{Asked, asked_by};
+use crate::hashing::hash_password;
 use crate::serving::serve;
 use arguments::Request;
 use drive::drive_lines;
@@ -11,7 +12,8 @@ use std::alloc::Global;
 use std::io;
 use std::io::{Read, Write};
 use std::net::Net;
-use std::rt::Clock;
+use std::random::RandomSource;
+use std::rt::{Clock, Files};
 use std::sync::Wait;
 use std::thread::Threads;
 use text_io::{RunError, tell, write_all};
@@ -29,22 +31,27 @@ pub struct Exit {
     pub told: Result<(), RunError>,
 }
 
-/// The program: does what its words ask for, its own name in front, and says how it ends. `serve` needs threads, sockets and a clock, and returns
+/// The program: does what its words ask for, its own name in front, and says how it ends. `hash-password` needs random bytes. `serve` needs threads, sockets, a clock and, with `--users`, the file, and returns
 /// only once the reader has ended, or at an error, and all connections have ended; with `--until killed` it reads nothing, and returns at an error alone.
 ///
 /// | Status | |
 /// |---|---|
 /// | 0 | all was written, and of `serve` the reader has ended; or the help or the version was |
 /// | 2 | the words are wrong, which is said on the error output; nothing was read |
-/// | 3 | the reader, the output or the network failed, or 2^20 reads did not reach the input's end |
+/// | 3 | the reader, the output or the network failed, 2^20 reads did not reach the input's end, the file with the users cannot be read, or the system gave no random bytes |
 /// | 4 | memory was refused, or what became of the messages of a group is not known |
-/// | 5 | a line of the input is none that the command takes; nothing was run |
+/// | 5 | a line of the input is none that the command takes, or one of the file with the users is no user's; nothing was run |
 ///
-/// What a broker's log says (`--log`) stands on the error output first. At 3, 4 and 5 it then has a line that says so: `device` or `memory`, and behind a colon why, where that is known; `unfinished` or `input line N`. Where it fails, or memory for that line is
+/// What a broker's log says (`--log`) stands on the error output first. At 3, 4 and 5 it then has a line that says so: `device` or `memory`, and behind a colon why, where that is known; `unfinished`, `input line N` or `users line N`. Where it fails, or memory for that line is
 /// refused, it has a beginning of that, and [`Exit::told`] says so.
 ///
 /// The words are an error where one of them is no UTF-8 text, which ends as wrong words do, or where memory was refused for them.
-pub fn run<H: Threads + Wait + Net + Clock + Sync, R: Read + Send, W: Write, E: Write + Send>(
+pub fn run<
+    H: Threads + Wait + Net + Clock + Files + RandomSource + Sync,
+    R: Read + Send,
+    W: Write,
+    E: Write + Send,
+>(
     rt: &H,
     alloc: Global,
     words: io::Result<Vec<String>>,
@@ -61,7 +68,12 @@ pub fn run<H: Threads + Wait + Net + Clock + Sync, R: Read + Send, W: Write, E: 
 }
 
 /// Does what was asked for, and says how the program ends, as [`run`].
-pub fn perform<H: Threads + Wait + Net + Clock + Sync, R: Read + Send, W: Write, E: Write + Send>(
+pub fn perform<
+    H: Threads + Wait + Net + Clock + Files + RandomSource + Sync,
+    R: Read + Send,
+    W: Write,
+    E: Write + Send,
+>(
     rt: &H,
     alloc: Global,
     asked: Result<Asked, RunError>,
@@ -91,7 +103,12 @@ pub fn perform<H: Threads + Wait + Net + Clock + Sync, R: Read + Send, W: Write,
 }
 
 /// Runs a command. What a broker says while it serves stands on the error output then.
-fn command<H: Threads + Wait + Net + Clock + Sync, R: Read + Send, W: Write, E: Write + Send>(
+fn command<
+    H: Threads + Wait + Net + Clock + Files + RandomSource + Sync,
+    R: Read + Send,
+    W: Write,
+    E: Write + Send,
+>(
     rt: &H,
     alloc: Global,
     request: Request,
@@ -106,6 +123,7 @@ fn command<H: Threads + Wait + Net + Clock + Sync, R: Read + Send, W: Write, E: 
         Request::Solo(setup) => solo(alloc, setup, reader, output),
         Request::Drive(setup) => drive_lines(alloc, setup, reader, output),
         Request::Serve(service) => serve(rt, alloc, &service, reader, output, errors),
+        Request::HashPassword(password) => hash_password(rt, alloc, &password, reader, output),
     }
 }
 

@@ -8,7 +8,9 @@
 mod asking;
 mod ending;
 mod endless;
+mod hashing;
 mod serving;
+mod users_file;
 
 pub use asking::{Asked, asked_by};
 pub use ending::{Exit, perform, run};

@@ -2,26 +2,29 @@
 ghost use Rattle.std.specs.Prelude.{◌≡◌, IfOk, IsErr};
 ghost use Rattle.std.specs.Io.KnownBytes.{IsAtEnd};
 ghost use Rattle.broker_log.specs.Lines.{BeginsToLog};
-ghost use Rattle.program.specs.Ending.{HasRead, IsLoggedFor, IsLoggedUnread, IsServedFor};
+ghost use Rattle.program.specs.Ending.{HasRead, IsLoggedFor, IsLoggedUnread, IsServedFor, IsServedWith, limits_of};
 
 use crate::endless::Endless;
+use crate::users_file::users_for;
 use arguments::{ServeOptions, ServeUntil};
 use broker_log::{Level, Log};
+use conn_rules::ClientLimits;
 use session_desk::Newcomers;
 use shared_routes::NewShares;
 use std::alloc::Global;
 use std::io::{Read, Write};
 use std::net::Net;
-use std::rt::Clock;
+use std::rt::{Clock, Files};
 use std::sync::Wait;
 use std::thread;
 use std::thread::Threads;
 use tcp_server::{ListenAt, ServeSettings, serve_at};
 use text_io::RunError;
+use users::SharedUsers;
 
-/// Serves as was asked for, and writes what the log has of it.
+/// Serves as was asked for, and writes what the log has of it. Where the file with the users gives none, it serves nobody.
 pub(crate) fn serve<
-    H: Threads + Wait + Net + Clock + Sync,
+    H: Threads + Wait + Net + Clock + Files + Sync,
     R: Read + Send,
     W: Write,
     E: Write + Send,
@@ -37,8 +40,43 @@ pub(crate) fn serve<
     ensures read { HasRead service.now.until result (R.remaining reader.old) (R.remaining reader.new) }
     ensures logged { IsLoggedFor service.now.until service.now.log (E.contents errors.old) (E.contents errors.new) }
 {
+    match users_for(rt, alloc, &service.users) {
+        Ok(users) => {
+            let limits = limits_of(service, users);
+            serve_limited(rt, alloc, service, &limits, reader, output, errors)
+        }
+        Err(error) => Err(error),
+    }
+}
+
+/// What a broker grants a client at most, and which clients it serves.
+fn limits_of(service: &ServeOptions, users: Option<SharedUsers>) -> ClientLimits
+    ensures { result ≡ limits_of service.now users }
+{
+    ClientLimits {
+        max_inflight: service.max_inflight,
+        max_expiry: service.max_expiry,
+        max_keep_alive: service.max_keep_alive,
+        users,
+    }
+}
+
+/// Serves with these limits, and writes what the log has of it.
+fn serve_limited<H: Threads + Wait + Net + Clock + Sync, R: Read + Send, W: Write, E: Write + Send>(
+    rt: &H,
+    alloc: Global,
+    service: &ServeOptions,
+    limits: &ClientLimits,
+    reader: &mut R,
+    output: &mut W,
+    errors: &mut E,
+) -> Result<(), RunError>
+    ensures written { IsServedWith service.now limits.now result (W.contents output.old) (W.contents output.new) }
+    ensures read { HasRead service.now.until result (R.remaining reader.old) (R.remaining reader.new) }
+    ensures logged { IsLoggedFor service.now.until service.now.log (E.contents errors.old) (E.contents errors.new) }
+{
     match Log::open(alloc, service.log) {
-        Ok(log) => serve_until(rt, alloc, service, &log, reader, output, errors),
+        Ok(log) => serve_until(rt, alloc, service, limits, &log, reader, output, errors),
         Err(_) => Err(RunError::Memory),
     }
 }
@@ -48,19 +86,20 @@ fn serve_until<H: Threads + Wait + Net + Clock + Sync, R: Read + Send, W: Write,
     rt: &H,
     alloc: Global,
     service: &ServeOptions,
+    limits: &ClientLimits,
     log: &Log,
     reader: &mut R,
     output: &mut W,
     errors: &mut E,
 ) -> Result<(), RunError>
     requires { log.now ≡ service.now.log }
-    ensures written { IsServedFor service.now result (W.contents output.old) (W.contents output.new) }
+    ensures written { IsServedWith service.now limits.now result (W.contents output.old) (W.contents output.new) }
     ensures read { HasRead service.now.until result (R.remaining reader.old) (R.remaining reader.new) }
     ensures logged { IsLoggedFor service.now.until service.now.log (E.contents errors.old) (E.contents errors.new) }
 {
     match service.until {
-        ServeUntil::Stdin => serve_logged(rt, alloc, service, log, reader, output, errors),
-        ServeUntil::Killed => serve_unread(rt, alloc, service, log, output, errors),
+        ServeUntil::Stdin => serve_logged(rt, alloc, service, limits, log, reader, output, errors),
+        ServeUntil::Killed => serve_unread(rt, alloc, service, limits, log, output, errors),
     }
 }
 
@@ -69,19 +108,29 @@ fn serve_unread<H: Threads + Wait + Net + Clock + Sync, W: Write, E: Write + Sen
     rt: &H,
     alloc: Global,
     service: &ServeOptions,
+    limits: &ClientLimits,
     log: &Log,
     output: &mut W,
     errors: &mut E,
 ) -> Result<(), RunError>
-    ensures written { IsServedFor service.now result (W.contents output.old) (W.contents output.new) }
+    ensures written { IsServedWith service.now limits.now result (W.contents output.old) (W.contents output.new) }
     ensures failed { IsErr result }
     ensures logged { IsLoggedUnread log.now (E.contents errors.old) (E.contents errors.new) }
 {
     let mut endless = Endless { rt };
     if log.level() == Level::Off {
-        serve_reading(rt, alloc, service, log, &mut endless, output)
+        serve_reading(rt, alloc, service, limits, log, &mut endless, output)
     } else {
-        serve_logged(rt, alloc, service, log, &mut endless, output, errors)
+        serve_logged(
+            rt,
+            alloc,
+            service,
+            limits,
+            log,
+            &mut endless,
+            output,
+            errors,
+        )
     }
 }
 
@@ -90,22 +139,23 @@ fn serve_logged<H: Threads + Wait + Net + Clock + Sync, R: Read + Send, W: Write
     rt: &H,
     alloc: Global,
     service: &ServeOptions,
+    limits: &ClientLimits,
     log: &Log,
     reader: &mut R,
     output: &mut W,
     errors: &mut E,
 ) -> Result<(), RunError>
-    ensures written { IsServedFor service.now result (W.contents output.old) (W.contents output.new) }
+    ensures written { IsServedWith service.now limits.now result (W.contents output.old) (W.contents output.new) }
     ensures read { IfOk result (λ _. IsAtEnd (R.remaining reader.new)) }
     ensures logged { BeginsToLog log.now (E.contents errors.old) (E.contents errors.new) }
 {
     if log.level() == Level::Off {
-        let ended = serve_reading(rt, alloc, service, log, reader, output);
+        let ended = serve_reading(rt, alloc, service, limits, log, reader, output);
         log.close();
         log.run(rt, alloc, errors);
         ended
     } else {
-        serve_beside(rt, alloc, service, log, reader, output, errors)
+        serve_beside(rt, alloc, service, limits, log, reader, output, errors)
     }
 }
 
@@ -114,20 +164,21 @@ fn serve_beside<H: Threads + Wait + Net + Clock + Sync, R: Read + Send, W: Write
     rt: &H,
     alloc: Global,
     service: &ServeOptions,
+    limits: &ClientLimits,
     log: &Log,
     reader: &mut R,
     output: &mut W,
     errors: &mut E,
 ) -> Result<(), RunError>
-    ensures written { IsServedFor service.now result (W.contents output.old) (W.contents output.new) }
+    ensures written { IsServedWith service.now limits.now result (W.contents output.old) (W.contents output.new) }
     ensures read { IfOk result (λ _. IsAtEnd (R.remaining reader.new)) }
     ensures logged { BeginsToLog log.now (E.contents errors.old) (E.contents errors.new) }
 {
     let mut logging = || log.run(rt, alloc, errors);
     let mut serving = ||
-        ensures written { IsServedFor service.entry.now result (W.contents output.entry.now) (W.contents output.exit.now) }
+        ensures written { IsServedWith service.entry.now limits.entry.now result (W.contents output.entry.now) (W.contents output.exit.now) }
         ensures read { IfOk result (λ _. IsAtEnd (R.remaining reader.exit.now)) }
-    { serve_closing(rt, alloc, service, log, reader, output) };
+    { serve_closing(rt, alloc, service, limits, log, reader, output) };
     let (_written, ended) = thread::join_mut(rt, &mut logging, &mut serving);
     ended
 }
@@ -137,14 +188,15 @@ fn serve_closing<H: Threads + Wait + Net + Clock + Sync, R: Read + Send, W: Writ
     rt: &H,
     alloc: Global,
     service: &ServeOptions,
+    limits: &ClientLimits,
     log: &Log,
     reader: &mut R,
     output: &mut W,
 ) -> Result<(), RunError>
-    ensures written { IsServedFor service.now result (W.contents output.old) (W.contents output.new) }
+    ensures written { IsServedWith service.now limits.now result (W.contents output.old) (W.contents output.new) }
     ensures read { IfOk result (λ _. IsAtEnd (R.remaining reader.new)) }
 {
-    let ended = serve_reading(rt, alloc, service, log, reader, output);
+    let ended = serve_reading(rt, alloc, service, limits, log, reader, output);
     log.close();
     ended
 }
@@ -154,17 +206,18 @@ fn serve_reading<H: Threads + Wait + Net + Clock + Sync, R: Read + Send, W: Writ
     rt: &H,
     alloc: Global,
     service: &ServeOptions,
+    limits: &ClientLimits,
     log: &Log,
     reader: &mut R,
     output: &mut W,
 ) -> Result<(), RunError>
-    ensures written { IsServedFor service.now result (W.contents output.old) (W.contents output.new) }
+    ensures written { IsServedWith service.now limits.now result (W.contents output.old) (W.contents output.new) }
     ensures read { IfOk result (λ _. IsAtEnd (R.remaining reader.new)) }
 {
     let settings = ServeSettings {
         capacity: service.capacity.get() as usize,
         workers: service.workers,
-        limits: service.limits,
+        limits: limits.share()?,
         drain: service.drain,
         newcomers: newcomers_of(service.keep_parked),
         new_shares: new_shares_of(service.declared_groups),

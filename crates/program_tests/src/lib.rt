@@ -11,4 +11,6 @@ mod serving;
 #[cfg(test)]
 mod statuses;
 #[cfg(test)]
+mod user_files;
+#[cfg(test)]
 mod words;

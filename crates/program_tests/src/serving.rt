@@ -109,6 +109,14 @@ fn what_words_of_serve_ask_for(rt: HostRuntime) -> Result<(), Fail> {
             "share_broker serve --max-keep-alive=65535 --port 1 --max-expiry=3600 --max-inflight 2 --group g:job",
             "serve 127.0.0.1:1 8 Stdin 0 0 Off expiry 3600 alive 65535 1024 2 $share/g/job",
         ),
+        (
+            "share_broker serve --users /etc/share_broker/users --port 1",
+            "serve 127.0.0.1:1 8 Stdin 0 0 Off users /etc/share_broker/users 1024 256",
+        ),
+        (
+            "share_broker serve --port 1 --users=users --max-expiry 1 --group g:job",
+            "serve 127.0.0.1:1 8 Stdin 0 0 Off expiry 1 users users 1024 256 $share/g/job",
+        ),
         ("share_broker serve --port 1 --address localhost", "2"),
         ("share_broker serve --port 1 --address 1.2.3", "2"),
         ("share_broker serve --port 1 --address 1.2.3.256", "2"),
@@ -197,6 +205,9 @@ fn faults_of_options(rt: HostRuntime) -> Result<(), Fail> {
             "2",
         ),
         ("share_broker solo --max-keep-alive 1", "2"),
+        ("share_broker serve --port 1 --users", "2"),
+        ("share_broker serve --port 1 --users a --users b", "2"),
+        ("share_broker drive --users a", "2"),
     ];
     assert_asked(&rt, rt.alloc(), &rows)
 }

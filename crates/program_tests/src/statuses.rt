@@ -7,7 +7,8 @@ use std::alloc::{AllocError, Global};
 use std::io;
 use std::io::{ErrorKind, Read};
 use std::net::{Ipv4Addr, Net, SocketAddr, TcpListener, TcpStream};
-use std::rt::Clock;
+use std::random::RandomSource;
+use std::rt::{Clock, Files};
 use std::sync::Wait;
 use std::test::Fail;
 use std::thread::Threads;
@@ -24,14 +25,14 @@ const AT_ITS_END: &str =
 
 /// How the program ended.
 #[derive(Drop)]
-struct Ended {
-    status: u8,
-    output: Vec<u8>,
-    errors: Vec<u8>,
+pub(crate) struct Ended {
+    pub(crate) status: u8,
+    pub(crate) output: Vec<u8>,
+    pub(crate) errors: Vec<u8>,
 }
 
 /// The program, run with these words on this input.
-fn ran<H: Threads + Wait + Net + Clock + Sync, R: Read + Send>(
+pub(crate) fn ran<H: Threads + Wait + Net + Clock + Files + RandomSource + Sync, R: Read + Send>(
     rt: &H,
     alloc: Global,
     line: &str,
@@ -137,6 +138,11 @@ fn texts_are_shown(rt: HostRuntime) -> Result<(), Fail> {
         ("share_broker help serve", "1 to 4294967295 seconds"),
         ("share_broker serve --help", "--max-keep-alive <SECONDS>"),
         ("share_broker help serve", "1 to 65535 seconds:"),
+        ("share_broker serve --help", "--users <FILE>"),
+        ("share_broker --help", "\n  hash-password "),
+        ("share_broker hash-password --help", "<NAME>"),
+        ("share_broker help hash-password", "1 to 1000000"),
+        ("share_broker hash-password -h", "[default: 1000]"),
         ("share_broker drive --help", "1 to 65536 [default: 1024]"),
         ("share_broker solo --help", "1 to 256 [default: 256]"),
     ];
@@ -188,6 +194,18 @@ fn wrong_words(rt: HostRuntime) -> Result<(), Fail> {
             "invalid value '65536'",
         ),
         ("share_broker solo --capacity 0", "invalid value '0'"),
+        (
+            "share_broker hash-password a:b",
+            "'a:b' for '<NAME>': a user's name has 1 to 128 bytes",
+        ),
+        (
+            "share_broker hash-password a:b",
+            "Usage: share_broker hash-password",
+        ),
+        (
+            "share_broker hash-password a --iterations 0",
+            "invalid value '0'",
+        ),
     ];
     for (line, text) in rows.iter() {
         let mut reader = CONNECTED;
@@ -277,7 +295,13 @@ fn serving_until_killed_fails(rt: HostRuntime) -> Result<(), Fail> {
 
 /// How a broker ends whose words name a port behind these that another listener has.
 fn ran_at_taken_port<
-    H: Threads + Wait + Net<Listener = TcpListener, Stream = TcpStream> + Clock + Sync,
+    H: Threads
+        + Wait
+        + Net<Listener = TcpListener, Stream = TcpStream>
+        + Clock
+        + Files
+        + RandomSource
+        + Sync,
 >(rt: &H, alloc: Global, words: &str) -> Option<Ended> {
     let listener = TcpListener::bind(rt, SocketAddr::from((Ipv4Addr::LOCALHOST, 0))).ok()?;
     let port = listener.local_addr().ok()?.port();

@@ -1,7 +1,7 @@
 //! Words, and what they ask for.
 use crate::asserting::assert_text;
 use arguments::{Request, ServeOptions, arguments};
-use conn_rules::{ClientLimits, MaxInflight, QueueCapacity, Setup};
+use conn_rules::{MaxInflight, QueueCapacity, Setup};
 use mqtt_topic::Routes;
 use std::alloc::{AllocError, Global};
 use std::test::Fail;
@@ -15,13 +15,19 @@ pub(crate) fn words_of(alloc: Global, line: &str) -> Result<Vec<String>, AllocEr
     Ok(words)
 }
 
-/// What a line asks for: the command, and of `serve` what it has of its own; the capacity, the limit of unacknowledged messages and the shares; or the status of its fault.
+/// What a line asks for: the command, and of `serve` what it has of its own; the capacity, the limit of unacknowledged messages and the shares; of `hash-password` the name and the iterations; or the status of its
+/// fault.
 pub(crate) fn asked(alloc: Global, line: &str) -> Result<String, AllocError> {
     let words = words_of(alloc, line)?;
     match arguments(alloc, &words) {
         Ok(Request::Solo(setup)) => server(alloc, "solo", &setup),
         Ok(Request::Drive(setup)) => server(alloc, "drive", &setup),
         Ok(Request::Serve(service)) => broker(alloc, &service),
+        Ok(Request::HashPassword(password)) => format!(in alloc;
+            "hash-password {} {}",
+            password.name.as_str(),
+            password.iterations
+        ),
         Err(error) => format!(in alloc; "{}", error.exit_code()),
     }
 }
@@ -38,7 +44,7 @@ fn server(alloc: Global, command: &str, setup: &Setup) -> Result<String, AllocEr
 }
 
 /// What `serve` begins with: the address, the port, the workers, until when, the time to drain, the port of metrics, the level of its log, whether parked sessions are kept, whether
-/// groups are to be declared, how many connections an address may have, and the longest expiry and keep alive.
+/// groups are to be declared, how many connections an address may have, the longest expiry and keep alive, and the file with its users.
 fn broker(alloc: Global, service: &ServeOptions) -> Result<String, AllocError> {
     let kept = if service.keep_parked { " kept" } else { "" };
     let declared = if service.declared_groups {
@@ -50,7 +56,7 @@ fn broker(alloc: Global, service: &ServeOptions) -> Result<String, AllocError> {
         0 => String::new(alloc),
         most => format!(in alloc; " {most} each")?,
     };
-    let limits = limited(alloc, service.limits)?;
+    let limits = limited(alloc, service)?;
     let command = format!(in alloc;
         "serve {}:{} {} {:?} {} {} {:?}{kept}{declared}{each}{limits}",
         service.address,
@@ -65,20 +71,24 @@ fn broker(alloc: Global, service: &ServeOptions) -> Result<String, AllocError> {
         alloc,
         command.as_str(),
         service.capacity,
-        service.limits.max_inflight,
+        service.max_inflight,
         &service.groups,
     )
 }
 
-/// The longest expiry and the longest keep alive, where they are limited.
-fn limited(alloc: Global, limits: ClientLimits) -> Result<String, AllocError> {
-    let expiry = match limits.max_expiry {
+/// The longest expiry and the longest keep alive, where they are limited, and the file with the users, where there is one.
+fn limited(alloc: Global, service: &ServeOptions) -> Result<String, AllocError> {
+    let expiry = match service.max_expiry {
         Some(seconds) => format!(in alloc; " expiry {}", seconds.get())?,
         None => String::new(alloc),
     };
-    match limits.max_keep_alive {
-        Some(seconds) => format!(in alloc; "{expiry} alive {}", seconds.get()),
-        None => Ok(expiry),
+    let limits = match service.max_keep_alive {
+        Some(seconds) => format!(in alloc; "{expiry} alive {}", seconds.get())?,
+        None => expiry,
+    };
+    match &service.users {
+        Some(file) => format!(in alloc; "{limits} users {}", file.as_str()),
+        None => Ok(limits),
     }
 }
 
@@ -156,6 +166,48 @@ fn what_words_ask_for(rt: HostRuntime) -> Result<(), Fail> {
         ("share_broker --help", "0"),
         ("share_broker drive --help", "0"),
         ("share_broker --version", "0"),
+    ];
+    for (line, expected) in rows.iter() {
+        let asked = asked(rt.alloc(), line)?;
+        assert_text(&rt, asked.as_str(), *expected);
+    }
+    Ok(())
+}
+
+#[test]
+fn what_words_of_hash_password_ask_for(rt: HostRuntime) -> Result<(), Fail> {
+    let rows = [
+        (
+            "share_broker hash-password worker",
+            "hash-password worker 1000",
+        ),
+        (
+            "share_broker hash-password --iterations 1000000 worker-7",
+            "hash-password worker-7 1000000",
+        ),
+        (
+            "share_broker hash-password --iterations=1 -- -worker",
+            "hash-password -worker 1",
+        ),
+        // faults
+        ("share_broker hash-password", "2"),
+        ("share_broker hash-password a:b", "2"),
+        ("share_broker hash-password #worker", "2"),
+        ("share_broker hash-password ", "2"),
+        ("share_broker hash-password worker secret", "2"),
+        ("share_broker hash-password worker --iterations 0", "2"),
+        (
+            "share_broker hash-password worker --iterations 1000001",
+            "2",
+        ),
+        ("share_broker hash-password worker --iterations", "2"),
+        (
+            "share_broker hash-password worker --iterations 1 --iterations 1",
+            "2",
+        ),
+        ("share_broker hash-password worker --capacity 1", "2"),
+        ("share_broker hash-password --help", "0"),
+        ("share_broker help hash-password", "0"),
     ];
     for (line, expected) in rows.iter() {
         let asked = asked(rt.alloc(), line)?;

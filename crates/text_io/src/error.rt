@@ -35,6 +35,10 @@ pub enum RunError {
     WriteFailed(DeviceFault),
     /// 3: an address was not listened at, or connections were not accepted.
     Network(DeviceFault),
+    /// 3: the file with the users cannot be read.
+    UsersUnread,
+    /// 3: the system gave no random bytes.
+    NoRandomBytes,
     /// 4: an allocation was refused.
     Memory,
     /// 4: there were too few file descriptors for the workers.
@@ -43,6 +47,8 @@ pub enum RunError {
     Unfinished,
     /// 5: this line of the input, counted from 1, is none that the program takes.
     Line(u64),
+    /// 5: this line of the file with the users, counted from 1, is no user's.
+    UsersLine(u64),
 }
 
 impl RunError {
@@ -54,9 +60,11 @@ impl RunError {
             RunError::ReadFailed
             | RunError::TooManyReads
             | RunError::WriteFailed(_)
-            | RunError::Network(_) => 3,
+            | RunError::Network(_)
+            | RunError::UsersUnread
+            | RunError::NoRandomBytes => 3,
             RunError::Memory | RunError::TooFewDescriptors | RunError::Unfinished => 4,
-            RunError::Line(_) => 5,
+            RunError::Line(_) | RunError::UsersLine(_) => 5,
         }
     }
 }

@@ -26,11 +26,11 @@ fn line_of(fault: DeviceFault) -> &'static [u8]
     }
 }
 
-/// Writes the line of an error: `device` or `memory`, and behind a colon why, where that is known; `unfinished`, or `input line N`. At a failure the writer has a beginning of it.
+/// Writes the line of an error: `device` or `memory`, and behind a colon why, where that is known; `unfinished`, `input line N`, or `users line N`. At a failure the writer has a beginning of it.
 ///
 /// # Errors
 ///
-/// [`RunError::WriteFailed`], and [`RunError::Memory`] at the line of a [`RunError::Line`].
+/// [`RunError::WriteFailed`], and [`RunError::Memory`] at the line of a [`RunError::Line`] or a [`RunError::UsersLine`].
 pub fn tell<W: Write>(alloc: Global, error: RunError, writer: &mut W) -> Result<(), RunError>
     ensures ok { OnOk result (Appends (W.contents writer.old) (W.contents writer.new) (error_line error)) }
     ensures err { OnErr result (Begins (W.contents writer.old) (W.contents writer.new) (error_line error)) }
@@ -42,11 +42,17 @@ pub fn tell<W: Write>(alloc: Global, error: RunError, writer: &mut W) -> Result<
             writer,
             line_of(fault),
         ),
+        RunError::UsersUnread => write_all(writer, b"device: the users file cannot be read\n"),
+        RunError::NoRandomBytes => write_all(writer, b"device: no random bytes\n"),
         RunError::Memory => write_all(writer, b"memory\n"),
         RunError::TooFewDescriptors => write_all(writer, b"memory: too few file descriptors\n"),
         RunError::Unfinished => write_all(writer, b"unfinished\n"),
         RunError::Line(number) => {
             let line = format!(in alloc; "input line {number}\n")?;
+            write_all(writer, line.as_bytes())
+        }
+        RunError::UsersLine(number) => {
+            let line = format!(in alloc; "users line {number}\n")?;
             write_all(writer, line.as_bytes())
         }
     }

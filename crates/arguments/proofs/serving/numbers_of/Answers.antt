@@ -34,14 +34,14 @@ pub returns-in_err-per_address : goal.returns-in_err-per_address
 returns-in_err-per_address c = rw c.from_residual-in_err-per_address.ensures (λ service by. c.in_err-per_address.ensures service.per_address by.per_address)
 
 pub returns-in_err-max_expiry : goal.returns-in_err-max_expiry
-returns-in_err-max_expiry c = rw c.from_residual-in_err-max_expiry.ensures (λ service by. c.in_err-max_expiry.ensures service.limits.max_expiry by.max_expiry)
+returns-in_err-max_expiry c = rw c.from_residual-in_err-max_expiry.ensures (λ service by. c.in_err-max_expiry.ensures service.max_expiry by.max_expiry)
 
 pub returns-in_err-max_keep_alive : goal.returns-in_err-max_keep_alive
 returns-in_err-max_keep_alive c =
-    rw c.from_residual-in_err-max_keep_alive.ensures (λ service by. c.in_err-max_keep_alive.ensures service.limits.max_keep_alive by.max_keep_alive)
+    rw c.from_residual-in_err-max_keep_alive.ensures (λ service by. c.in_err-max_keep_alive.ensures service.max_keep_alive by.max_keep_alive)
 
 pub returns-in_err-messages : goal.returns-in_err-messages
 returns-in_err-messages c = rw c.from_residual-in_err-messages.ensures (λ service by. c.in_err-messages.ensures service.capacity by.capacity)
 
 pub returns-in_err-packets : goal.returns-in_err-packets
-returns-in_err-packets c = rw c.from_residual-in_err-packets.ensures (λ service by. c.in_err-packets.ensures service.limits.max_inflight by.max_inflight)
+returns-in_err-packets c = rw c.from_residual-in_err-packets.ensures (λ service by. c.in_err-packets.ensures service.max_inflight by.max_inflight)

@@ -36,6 +36,7 @@ returns-in-Ok-clause-ok c =
       per_address = c.in-Some-numbers_of.ensures.4;
       max_expiry = c.in-Some-numbers_of.ensures.5;
       max_keep_alive = c.in-Some-numbers_of.ensures.6;
+      users = c.in_ok-users.ensures;
       capacity = c.in-Some-numbers_of.ensures.7;
       max_inflight = c.in-Some-numbers_of.ensures.8;
       groups = subst (λ texts. AddsEach [] texts c.in-Ok.groups) pairs all;

@@ -1,10 +1,11 @@
--- A command did what its clauses say, in each of the three cases.
+-- A command did what its clauses say, in each of the four cases.
 use Rattle.std.proofs.Common.{◌≡◌, Err, subst, sym}
 use Rattle.drive.specs.Scripts.{script_of}
 use Rattle.drive.specs.Transcripts.{IsDriveOutput}
 use Rattle.solo_output.specs.Output.{IsOutputFor}
 use Rattle.solo_output.specs.Streams.{stream_of}
 use Rattle.program.specs.Ending.{Did}
+use Rattle.program.specs.Hashing.{IsUserOutput, password_in}
 use Rattle.program.proofs.Commands.{wrote}
 use Rattle.program.proofs.ending.command.Goals as goal
 
@@ -34,3 +35,12 @@ returns-in-Serve-clause-did g c =
     let new = g.W.Write.contents c.serve.new.output in
     subst (λ request. Did request c.serve.result input left old new) (sym c.in-Serve.is)
     (record { written = c.serve.ensures.written; read = c.serve.ensures.read })
+
+pub returns-in-HashPassword-clause-did : goal.returns-in-HashPassword-clause-did
+returns-in-HashPassword-clause-did g c =
+    let input = g.R.Read.remaining c.args.reader.now in
+    let left = g.R.Read.remaining c.hash_password.new.reader in
+    let old = g.W.Write.contents c.args.output.now in
+    let new = g.W.Write.contents c.hash_password.new.writer in
+    subst (λ request. Did request c.hash_password.result input left old new) (sym c.in-HashPassword.is)
+    (wrote (λ given. IsUserOutput c.in-HashPassword.password given) (λ given line. password_in given ≡ Err line) input c.hash_password.result old new c.hash_password.ensures.ended c.hash_password.ensures.bad_line c.hash_password.ensures.begun c.hash_password.ensures.kept)
