@@ -144,7 +144,7 @@ module _ {S P : Type 0} (call : S → SupplyCall P → S → Type 0) (slot_of : 
   -- what an input does: the phase from then on, and the reply
   abbrev pub Reacts : S → ℕ → ConnPhase P → ℕ → Input → ConnPhase P → Reply → S → Type 0
   Reacts old number (Unconnected opened) now (inputs.Packet packet) phase reply new =
-      AnswersFirst (first_answer packet) old number opened.limits now packet phase reply new
+      AnswersFirst (first_answer opened.limits.users packet) old number opened.limits now packet phase reply new
   Reacts old number (Unconnected opened) now (inputs.Fault fault) phase reply new = IsRefusedIf (fault_refusal fault) phase reply × (new ≡ old)
   Reacts old number (Unconnected opened) now inputs.Tick phase reply new = Sweeps call old now 256 new × WaitsForConnect (is_late (now - opened.at)) opened phase reply
   Reacts old number (Unconnected opened) now inputs.EndOfInput phase reply new = IsClosed phase reply × (new ≡ old)

@@ -83,11 +83,11 @@ impl<P> ConnectedClient<P> {
 }
 
 /// What a connection is opened with.
-#[derive(Clone, Copy, Debug, PartialEq, Eq)]
+#[derive(Drop)]
 pub struct Opening {
     /// The moment, in milliseconds.
     pub at: u64,
-    /// What its client is granted at most.
+    /// What its client is granted at most, and which clients are served.
     pub limits: ClientLimits,
 }
 

@@ -147,12 +147,12 @@ fn answer_first<P: HoldingPlace, S: Supply<P>>(
 ) -> (ConnPhase<P>, Result<Reply, NoMemory>)
     requires known { number < 1024 }
     ensures answered { MatchResult result.1
-        (λ reply. AnswersFirst S.call P.slot_of (first_answer packet) supply.old number limits now packet result.0 reply supply.new)
+        (λ reply. AnswersFirst S.call P.slot_of (first_answer limits.users packet) supply.old number limits now packet result.0 reply supply.new)
         (λ _. (result.0 ≡ phases.Ended) × FailsFirst S.call P.slot_of supply.old number limits now packet supply.new) }
     ensures sound { IsSoundPhase P.has_out result.0 }
     ensures visiting { S.visiting supply.new ≡ S.visiting supply.old }
 {
-    match answer_to_first(&packet) {
+    match answer_to_first(&limits, &packet) {
         FirstAnswer::Close => {
             drop(packet);
             close()
@@ -175,7 +175,7 @@ fn connect<P: HoldingPlace, S: Supply<P>>(
     packet: Packet,
 ) -> (ConnPhase<P>, Result<Reply, NoMemory>)
     requires known { number < 1024 }
-    requires opens { first_answer packet ≡ first.Attach }
+    requires opens { first_answer limits.users packet ≡ first.Attach }
     ensures answered { MatchResult result.1
         (λ reply. AnswersFirst S.call P.slot_of first.Attach supply.old number limits now packet result.0 reply supply.new)
         (λ _. (result.0 ≡ phases.Ended) × FailsFirst S.call P.slot_of supply.old number limits now packet supply.new) }
@@ -188,7 +188,7 @@ fn connect<P: HoldingPlace, S: Supply<P>>(
                 supply,
                 number,
                 now,
-                request_of(limits, connect.into_inner(), now),
+                request_of(&limits, connect.into_inner(), now),
                 0,
             )
         }
@@ -197,11 +197,11 @@ fn connect<P: HoldingPlace, S: Supply<P>>(
 }
 
 /// What a CONNECT asks for that comes at this moment.
-fn request_of(limits: ClientLimits, connect: Connect, now: u64) -> ConnectRequest
-    ensures { result ≡ request_of limits connect now }
+fn request_of(limits: &ClientLimits, connect: Connect, now: u64) -> ConnectRequest
+    ensures { result ≡ request_of limits.now connect now }
 {
-    let terms = terms_of(&limits, &connect);
-    let overrides = overrides_of(&limits, &connect);
+    let terms = terms_of(limits, &connect);
+    let overrides = overrides_of(limits, &connect);
     ConnectRequest {
         client: connect.client_identifier,
         clean_start: connect.clean_start,

@@ -19,6 +19,7 @@ use Rattle.session_desk.specs.declared.session.Membership.{Membership}
 use Rattle.session_desk.specs.declared.session.Membership.TheVariants.{NotMember, Member, Leaving}
 use Rattle.session_desk.specs.Attaching.{Request}
 use Rattle.conn_rules.specs.declared.limits.ClientLimits.{ClientLimits}
+use Rattle.users.specs.Table.{UserTable}
 use Rattle.conn_rules.specs.Connecting.{is_under, connect_answer, first_answer}
 use Rattle.conn_rules.specs.HandOuts.{is_discarded, is_message_too_long}
 use Rattle.conn_rules.specs.Packets.{job, refusing}
@@ -48,6 +49,7 @@ use Rattle.conn_laws.specs.PacketSizes.{maximum_named, Takes, TakesAgain, TakesS
 use Rattle.conn_laws.proofs.Aside.{all_of_both}
 use Rattle.conn_laws.proofs.Replies as replies
 use Rattle.conn_laws.proofs.SameSize.{taken_alike, taken_within, small_taken}
+use Rattle.conn_laws.proofs.FirstAnswers.{not_closed, neither_closed, nor_refused}
 use Rattle.conn_laws.proofs.TermsAsked as terms_asked
 use Rattle.conn_laws.proofs.Sending.{all_are, any_answers, small_answers}
 
@@ -106,25 +108,13 @@ acked maximum window window' identifier None acks all = subst (AllTaken maximum)
 
 -- ---- the first packet
 
-not_closed : (small : Bool) (rest : FirstAnswer) (refusal : ConnectRefusal) → (if small then first.Close else rest) ≡ first.Refuse refusal → small ≡ false
-not_closed true rest refusal is = absurd cc
-not_closed false rest refusal is = refl
-
-neither_closed : (small : Bool) (rest : FirstAnswer) → (if small then first.Close else rest) ≡ first.Attach → rest ≡ first.Attach
-neither_closed true rest is = absurd cc
-neither_closed false rest is = is
-
-nor_refused : (small : Bool) (refusal : ConnectRefusal) (rest : FirstAnswer) → (if small then first.Refuse refusal else rest) ≡ first.Attach → small ≡ false
-nor_refused true refusal rest is = absurd cc
-nor_refused false refusal rest is = refl
-
 not_under : (maximum : Option ℕ) → is_under 64 maximum ≡ false → TakesSmall maximum
 not_under None is = tt
 not_under (Some maximum) is = ltb-false maximum 64 is
 
 -- who asks for a session takes each packet of 64 bytes
-asks_taking : (connect : Connect) → connect_answer connect ≡ first.Attach → TakesSmall connect.properties.maximum_packet_size
-asks_taking connect is = not_under connect.properties.maximum_packet_size (nor_refused _ _ _ (neither_closed _ _ is))
+asks_taking : (users : Option UserTable) (connect : Connect) → connect_answer users connect ≡ first.Attach → TakesSmall connect.properties.maximum_packet_size
+asks_taking users connect is = not_under connect.properties.maximum_packet_size (nor_refused _ _ _ (neither_closed _ _ is))
 
 -- a CONNACK that refuses has five bytes
 five : (maximum : Option ℕ) (refusal : ConnectRefusal) → is_under 5 maximum ≡ false → Takes maximum (refusing refusal)
@@ -132,10 +122,10 @@ five None refusal is = refl
 five (Some maximum) refusal is =
     taken_within 5 maximum (refusing refusal) (omega (arith, replies.refused refusal)) (omega (arith, replies.refused refusal)) (ltb-false maximum 5 is)
 
-refusal_taken : (P : Type 0) (opened : Opening) (packet : Packet) (refusal : ConnectRefusal) → first_answer packet ≡ first.Refuse refusal
+refusal_taken : (P : Type 0) (opened : Opening) (users : Option UserTable) (packet : Packet) (refusal : ConnectRefusal) → first_answer users packet ≡ first.Refuse refusal
     → Takes (maximum_named {P = P} (Unconnected opened) (inputs.Packet packet)) (refusing refusal)
-refusal_taken P opened (packets.Connect connect) refusal is = five connect.properties.maximum_packet_size refusal (not_closed _ _ _ is)
-refusal_taken P opened packet refusal is = refl
+refusal_taken P opened users (packets.Connect connect) refusal is = five connect.properties.maximum_packet_size refusal (not_closed _ _ _ is)
+refusal_taken P opened users packet refusal is = refl
 
 takes_answer : (maximum : Option ℕ) → TakesSmall maximum → (packet : Packet) → IsAnswer packet → TakesUnlessAssigns maximum packet
 takes_answer maximum takes packet (inl small) = inl (small_taken maximum packet takes small)
@@ -227,7 +217,7 @@ module _ {S P : Type 0} (call : S → SupplyCall P → S → Type 0) (slot_of : 
   attached (Err errors.NoName) asks before old new request ticks phase reply asked_for attaches its takes = ended phase attaches.0.over
   attached (Err errors.Memory) asks before old new request ticks phase reply asked_for attaches its takes = absurd attaches
 
-  answered_first : (answer : FirstAnswer) (opened : Opening) (old new : S) (number : ℕ) (limits : ClientLimits) (now : ℕ) (packet : Packet) (phase : ConnPhase P) (reply : Reply) → first_answer packet ≡ answer
+  answered_first : (answer : FirstAnswer) (opened : Opening) (old new : S) (number : ℕ) (limits : ClientLimits) (now : ℕ) (packet : Packet) (phase : ConnPhase P) (reply : Reply) → first_answer limits.users packet ≡ answer
       → AnswersFirst call slot_of answer old number limits now packet phase reply new → maximum_named {P = P} (Unconnected opened) (inputs.Packet packet) ≡ maximum → Holds phase
   answered_first first.Close opened old new number limits now packet phase reply is answers its = ended phase answers.0.over
   answered_first (first.Refuse refusal) opened old new number limits now packet phase reply is answers its = ended phase answers.0.over
@@ -235,7 +225,7 @@ module _ {S P : Type 0} (call : S → SupplyCall P → S → Type 0) (slot_of : 
       let connect = answers.0 in
       let attaches = answers.2 in
       let named : connect.properties.maximum_packet_size ≡ maximum = sym (ap (λ p. maximum_named {P = P} (Unconnected opened) (inputs.Packet p)) answers.1) ∙ its in
-      let takes = subst TakesSmall named (asks_taking connect (sym (ap first_answer answers.1) ∙ is)) in
+      let takes = subst TakesSmall named (asks_taking limits.users connect (sym (ap (first_answer limits.users) answers.1) ∙ is)) in
       attached attaches.answer _ old attaches.mid new (request_of limits connect now) 0 phase reply attaches.asked_for attaches.answered named takes
 
   refused_if : (refusal : Option ConnectRefusal) (phase : ConnPhase P) (reply : Reply) → IsRefusedIf refusal phase reply → Holds phase
@@ -346,25 +336,25 @@ module _ {S P : Type 0} (call : S → SupplyCall P → S → Type 0) (slot_of : 
     (taken : (maximum : Option ℕ) (packet : Packet) → Takes maximum packet → Are maximum packet)
     (follows : (maximum : Option ℕ) → TakesSmall maximum → (packet : Packet) → Is packet → Are maximum packet) where
   -- the answer to the first packet
-  first_replied : (answer : FirstAnswer) (opened : Opening) (old new : S) (number now : ℕ) (packet : Packet) (phase : ConnPhase P) (reply : Reply) → first_answer packet ≡ answer
+  first_replied : (answer : FirstAnswer) (opened : Opening) (old new : S) (number now : ℕ) (packet : Packet) (phase : ConnPhase P) (reply : Reply) → first_answer opened.limits.users packet ≡ answer
       → AnswersFirst call slot_of answer old number opened.limits now packet phase reply new → AllByRecursion Is (option_to_list reply.packet)
       → AllByRecursion (Are (maximum_named {P = P} (Unconnected opened) (inputs.Packet packet))) (option_to_list reply.packet)
   first_replied first.Close opened old new number now packet phase reply is answers replies =
       subst (λ (r : Reply). AllByRecursion (Are (maximum_named {P = P} (Unconnected opened) (inputs.Packet packet))) (option_to_list r.packet)) (sym answers.0.told) tt
   first_replied (first.Refuse refusal) opened old new number now packet phase reply is answers replies =
       subst (λ (r : Reply). AllByRecursion (Are (maximum_named {P = P} (Unconnected opened) (inputs.Packet packet))) (option_to_list r.packet)) (sym answers.0.told)
-      (taken (maximum_named {P = P} (Unconnected opened) (inputs.Packet packet)) (refusing refusal) (refusal_taken P opened packet refusal is), tt)
+      (taken (maximum_named {P = P} (Unconnected opened) (inputs.Packet packet)) (refusing refusal) (refusal_taken P opened opened.limits.users packet refusal is), tt)
   first_replied first.Attach opened old new number now packet phase reply is answers replies =
       let connect = answers.0 in
       let named : maximum_named {P = P} (Unconnected opened) (inputs.Packet packet) ≡ connect.properties.maximum_packet_size = ap (λ p. maximum_named {P = P} (Unconnected opened) (inputs.Packet p)) answers.1 in
-      let takes = subst TakesSmall (sym named) (asks_taking connect (sym (ap first_answer answers.1) ∙ is)) in
+      let takes = subst TakesSmall (sym named) (asks_taking opened.limits.users connect (sym (ap (first_answer opened.limits.users) answers.1) ∙ is)) in
       all_are (follows (maximum_named {P = P} (Unconnected opened) (inputs.Packet packet)) takes) (option_to_list reply.packet) replies
 
   reply_fits : (phase : ConnPhase P) (input : Input) (old new : S) (number now : ℕ) (between : ConnPhase P) (reply : Reply)
       → Reacts call slot_of old number phase now input between reply new → HoldsWhatFits phase → AllByRecursion Is (option_to_list reply.packet)
       → AllByRecursion (Are (maximum_named phase input)) (option_to_list reply.packet)
   reply_fits (Unconnected opened) (inputs.Packet packet) old new number now between reply reacts holds replies =
-      first_replied (first_answer packet) opened old new number now packet between reply refl reacts replies
+      first_replied (first_answer opened.limits.users packet) opened old new number now packet between reply refl reacts replies
   reply_fits (Unconnected opened) (inputs.Fault fault) old new number now between reply reacts holds replies = all_are (follows None tt) (option_to_list reply.packet) replies
   reply_fits (Unconnected opened) inputs.Tick old new number now between reply reacts holds replies = all_are (follows None tt) (option_to_list reply.packet) replies
   reply_fits (Unconnected opened) inputs.EndOfInput old new number now between reply reacts holds replies = all_are (follows None tt) (option_to_list reply.packet) replies
@@ -439,4 +429,4 @@ module _ {S P : Type 0} (call : S → SupplyCall P → S → Type 0) (slot_of : 
   as_named number now phase phase' input sent next old new steps =
       has_maximum (maximum_named phase input) phase'
       (terms_asked.within call slot_of Any (Of (maximum_named phase input)) number now phase phase' input sent next old new steps
-      (λ opened connect may before came. sym (λ i. maximum_named (before i) (came i))) (named_before phase input))
+      (λ opened connect may before came served. sym (λ i. maximum_named (before i) (came i))) (named_before phase input))

@@ -1,5 +1,6 @@
 pub mod Ended
 pub mod Quotas
+pub mod FirstAnswers
 pub mod TermsAsked
 pub mod Limits
 pub mod Eager

@@ -40,4 +40,4 @@ module _ {S P : Type 0} (call : S → SupplyCall P → S → Type 0) (slot_of : 
   within number now phase phase' input sent next old new steps kept =
       as_limited phase'
       (asked.within call slot_of Open Of number now phase phase' input sent next old new steps
-      (λ opened connect may before came. least limit opened.limits.max_inflight (or_else 65535 connect.properties.receive_maximum) may) (as_asked phase kept))
+      (λ opened connect may before came served. least limit opened.limits.max_inflight (or_else 65535 connect.properties.receive_maximum) may) (as_asked phase kept))

@@ -136,7 +136,7 @@ module _ {S P : Type 0} (call : S → SupplyCall P → S → Type 0) (AreAlike :
 
   reacted : (phase : ConnPhase P) (input : Input) (a a' b b' : S) (number now : ℕ) (s t : ConnPhase P) (r u : Reply) → AreAlike a b
       → Reacts call slot_of a number phase now input s r a' → Reacts call slot_of b number phase now input t u b' → Agree s t r u a' b'
-  reacted (Unconnected opened) (inputs.Packet packet) a a' b b' number now s t r u alike h k = first_answered (first_answer packet) a a' b b' number opened.limits now packet s t r u alike h k
+  reacted (Unconnected opened) (inputs.Packet packet) a a' b b' number now s t r u alike h k = first_answered (first_answer opened.limits.users packet) a a' b b' number opened.limits now packet s t r u alike h k
   reacted (Unconnected opened) (inputs.Fault fault) a a' b b' number now s t r u alike h k = (refused_if (fault_refusal fault) s t r u h.0 k.0, calls.still call AreAlike answers a a' b b' alike h.1 k.1)
   reacted (Unconnected opened) inputs.Tick a a' b b' number now s t r u alike h k =
       (waited (is_late (now - opened.at)) opened s t r u h.1 k.1, endings.swept call AreAlike answers 256 now a a' b b' alike h.0 k.0)

@@ -297,7 +297,7 @@ module _ {S P : Type 0} (call : S → SupplyCall P → S → Type 0) where
     pub reacted : (phase : ConnPhase P) (input : Input) (old new : S) (number now : ℕ) (between : ConnPhase P) (reply : Reply) → IsNotEnding phase
         → Reacts call slot_of old number phase now input between reply new → SessionStepped old number phase input reply.next between new
     reacted (Unconnected opened) (inputs.Packet packet) old new number now between reply sound is =
-        session_steps old new number _ _ reply.next between (λ e f c. absurd c) (first_answered (first_answer packet) old new number opened.limits now packet between reply is)
+        session_steps old new number _ _ reply.next between (λ e f c. absurd c) (first_answered (first_answer opened.limits.users packet) old new number opened.limits now packet between reply is)
     reacted (Unconnected opened) (inputs.Fault fault) old new number now between reply sound is =
         session_steps old new number _ _ reply.next between (λ e f c. absurd c) (over old new number between (refused_if (fault_refusal fault) between reply is.0) (still call old new is.1))
     reacted (Unconnected opened) inputs.Tick old new number now between reply sound is =

@@ -357,7 +357,7 @@ module _ {S P : Type 0} (call : S → SupplyCall P → S → Type 0) where
     -- an input of a connection
     pub reacted : (phase : ConnPhase P) (input : Input) (old new : S) (number now : ℕ) (between : ConnPhase P) (reply : Reply)
         → Reacts call slot_of old number phase now input between reply new → Walked [] [] old number now phase input reply.next (own_places between) new
-    reacted (Unconnected opened) (inputs.Packet packet) old new number now between reply is = idle old new number now _ _ reply.next (first_answered (first_answer packet) old new number opened.limits now packet between reply is) (λ p b. b, λ e f c. c)
+    reacted (Unconnected opened) (inputs.Packet packet) old new number now between reply is = idle old new number now _ _ reply.next (first_answered (first_answer opened.limits.users packet) old new number opened.limits now packet between reply is) (λ p b. b, λ e f c. c)
     reacted (Unconnected opened) (inputs.Fault fault) old new number now between reply is =
         idle old new number now _ _ reply.next (still call old new (refused_if (fault_refusal fault) between reply is.0) is.1) (λ p b. b, λ e f c. c)
     reacted (Unconnected opened) inputs.Tick old new number now between reply is =

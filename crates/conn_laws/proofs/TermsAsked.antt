@@ -1,5 +1,5 @@
 -- The terms of a connection are those that its client asked for: what holds of these holds of them.
-use Rattle.std.proofs.Common.{◌≡◌, ℕ, Bool, true, false, List, Option, Some, None, Result, Ok, Err, refl, sym, ap, subst}
+use Rattle.std.proofs.Common.{◌≡◌, ℕ, Bool, true, false, List, Option, Some, None, Result, Ok, Err, refl, sym, ap, subst, ◌∙◌}
 use Rattle.mqtt_packet.specs.declared.packet.Connect.{Connect}
 use Rattle.mqtt_packet.specs.declared.packet.Packet.{Packet}
 use Rattle.mqtt_packet.specs.declared.packet.Packet.TheVariants as packets
@@ -10,7 +10,7 @@ use Rattle.session_desk.specs.declared.error.DeskError.{DeskError}
 use Rattle.session_desk.specs.declared.error.DeskError.TheVariants as errors
 use Rattle.session_desk.specs.declared.session.Session.{Session}
 use Rattle.mqtt_packet.specs.declared.packet.ConnectRefusal.{ConnectRefusal}
-use Rattle.conn_rules.specs.Connecting.{terms_of}
+use Rattle.conn_rules.specs.Connecting.{first_answer, is_served, terms_of}
 use Rattle.conn_rules.specs.declared.terms.Terms.{Terms}
 use Rattle.conn_rules.specs.declared.connecting.FirstAnswer.{FirstAnswer}
 use Rattle.conn_rules.specs.declared.connecting.FirstAnswer.TheVariants as first
@@ -28,6 +28,7 @@ use Rattle.conn_engine.specs.declared.phase.ConnPhase.TheVariants.{Unconnected, 
 use Rattle.conn_engine.specs.Answering.{Answers, Disconnects, DisconnectsIf}
 use Rattle.conn_engine.specs.Connecting.{Accepts, AttachedAs, ResumesAs, WaitsAs}
 use Rattle.conn_engine.specs.Step.{request_of, hearing, IsRefusedIf, WaitsForConnect, AnswersFirst, Concludes, AnswersPacket, IsHeard, AnswersUnlessKicked, Reacts, Hands, Steps}
+use Rattle.conn_laws.proofs.FirstAnswers.{is_served_there}
 
 module _ {S P : Type 0} (call : S → SupplyCall P → S → Type 0) (slot_of : P → ℕ) (Open : Opening → Type 0) (Of : Terms → Type 0) where
   -- of what it was opened with, of the terms that it waits with, or of those that it has
@@ -75,12 +76,14 @@ module _ {S P : Type 0} (call : S → SupplyCall P → S → Type 0) (slot_of : 
   attached (Err errors.NoName) old new request ticks phase reply attaches within = ended phase attaches.0.over
   attached (Err errors.Memory) old new request ticks phase reply attaches within = absurd attaches
 
-  answered_first : (answer : FirstAnswer) (old new : S) (number now : ℕ) (opened : Opening) (packet : Packet) (phase : ConnPhase P) (reply : Reply)
-      → AnswersFirst call slot_of answer old number opened.limits now packet phase reply new → ((connect : Connect) → packet ≡ packets.Connect connect → Of (terms_of opened.limits connect)) → Within phase
-  answered_first first.Close old new number now opened packet phase reply answers asks = ended phase answers.0.over
-  answered_first (first.Refuse refusal) old new number now opened packet phase reply answers asks = ended phase answers.0.over
-  answered_first first.Attach old new number now opened packet phase reply answers asks =
-      attached answers.2.answer answers.2.mid new (request_of opened.limits answers.0 now) 0 phase reply answers.2.answered (asks answers.0 answers.1)
+  answered_first : (answer : FirstAnswer) (old new : S) (number now : ℕ) (opened : Opening) (packet : Packet) (phase : ConnPhase P) (reply : Reply) → first_answer opened.limits.users packet ≡ answer
+      → AnswersFirst call slot_of answer old number opened.limits now packet phase reply new
+      → ((connect : Connect) → packet ≡ packets.Connect connect → is_served opened.limits.users connect ≡ true → Of (terms_of opened.limits connect)) → Within phase
+  answered_first first.Close old new number now opened packet phase reply is answers asks = ended phase answers.0.over
+  answered_first (first.Refuse refusal) old new number now opened packet phase reply is answers asks = ended phase answers.0.over
+  answered_first first.Attach old new number now opened packet phase reply is answers asks =
+      let served = is_served_there opened.limits.users answers.0 (sym (ap (first_answer opened.limits.users) answers.1) ∙ is) in
+      attached answers.2.answer answers.2.mid new (request_of opened.limits answers.0 now) 0 phase reply answers.2.answered (asks answers.0 answers.1 served)
 
   refused_if : (refusal : Option ConnectRefusal) (phase : ConnPhase P) (reply : Reply) → IsRefusedIf refusal phase reply → Within phase
   refused_if (Some refusal) phase reply refused = ended phase refused.over
@@ -135,14 +138,16 @@ module _ {S P : Type 0} (call : S → SupplyCall P → S → Type 0) (slot_of : 
   unless_kicked true old new connected now Does phase reply does within = ended phase does.1.1
   unless_kicked false old new connected now Does phase reply does within = within does
 
-  -- a CONNECT that comes asks for such
+  -- a CONNECT that comes, of a client that is served, asks for such
   abbrev pub Asks : ConnPhase P → Input → Type 0
-  Asks phase input = (opened : Opening) (connect : Connect) → Open opened → phase ≡ Unconnected opened → input ≡ inputs.Packet (packets.Connect connect) → Of (terms_of opened.limits connect)
+  Asks phase input =
+      (opened : Opening) (connect : Connect) → Open opened → phase ≡ Unconnected opened → input ≡ inputs.Packet (packets.Connect connect) → is_served opened.limits.users connect ≡ true
+      → Of (terms_of opened.limits connect)
 
   reacted : (phase : ConnPhase P) (input : Input) (old new : S) (number now : ℕ) (phase' : ConnPhase P) (reply : Reply)
       → Reacts call slot_of old number phase now input phase' reply new → Asks phase input → Within phase → Within phase'
   reacted (Unconnected opened) (inputs.Packet packet) old new number now phase' reply reacts asks within =
-      answered_first _ old new number now opened packet phase' reply reacts (λ connect is. asks opened connect within refl (ap inputs.Packet is))
+      answered_first _ old new number now opened packet phase' reply refl reacts (λ connect is. asks opened connect within refl (ap inputs.Packet is))
   reacted (Unconnected opened) (inputs.Fault fault) old new number now phase' reply reacts asks within = refused_if _ phase' reply reacts.0
   reacted (Unconnected opened) inputs.Tick old new number now phase' reply reacts asks within = waits_for_connect _ opened phase' reply reacts.1 within
   reacted (Unconnected opened) inputs.EndOfInput old new number now phase' reply reacts asks within = ended phase' reacts.0.over

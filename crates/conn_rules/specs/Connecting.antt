@@ -1,11 +1,12 @@
 -- What a client asks for when it connects, and the answer to the first packet (sections 3.1 and 3.2).
-use Rattle.std.specs.Prelude.{ℕ, ◌==◌, ◌&&◌, ◌||◌, nat_lt, min, Bool, true, false, if◌then◌else◌, length, Option, Some, None, is_some}
+use Rattle.std.specs.Prelude.{ℕ, ◌==◌, ◌&&◌, ◌||◌, nat_lt, min, Bool, true, false, if◌then◌else◌, List, length, Option, Some, None, is_some}
 use Rattle.mqtt_packet.specs.declared.offer.Offer.{Offer}
 use Rattle.mqtt_packet.specs.declared.packet.QoS.TheVariants.{AtLeastOnce}
 use Rattle.mqtt_packet.specs.declared.packet.Connect.{Connect}
-use Rattle.mqtt_packet.specs.declared.packet.ConnectRefusal.TheVariants.{ImplementationSpecificError, UnsupportedProtocolVersion, ClientIdentifierNotValid, BadAuthenticationMethod}
+use Rattle.mqtt_packet.specs.declared.packet.ConnectRefusal.TheVariants.{ImplementationSpecificError, UnsupportedProtocolVersion, ClientIdentifierNotValid, BadUserNameOrPassword, BadAuthenticationMethod}
 use Rattle.mqtt_packet.specs.declared.packet.Packet.{Packet}
 use Rattle.mqtt_packet.specs.declared.packet.Packet.TheVariants as packets
+use Rattle.users.specs.Table.{UserTable, admits}
 use Rattle.conn_rules.specs.declared.connecting.FirstAnswer.{FirstAnswer}
 use Rattle.conn_rules.specs.declared.connecting.FirstAnswer.TheVariants.{Close, Refuse, Attach}
 use Rattle.conn_rules.specs.declared.limits.ClientLimits.{ClientLimits}
@@ -22,9 +23,9 @@ abbrev pub or_else : ℕ → Option ℕ → ℕ
 or_else absent None = absent
 or_else absent (Some number) = number
 
--- the limits of a broker that limits the unacknowledged PUBLISH packets of a client, and nothing else
+-- the limits of a broker that limits the unacknowledged PUBLISH packets of a client and nothing else, and serves all clients
 abbrev pub inflight_alone : ℕ → ClientLimits
-inflight_alone max_inflight = record { max_inflight = max_inflight; max_expiry = None; max_keep_alive = None }
+inflight_alone max_inflight = record { max_inflight = max_inflight; max_expiry = None; max_keep_alive = None; users = None }
 
 -- the limit of an expiry, where there is one and the seconds are more
 abbrev pub expiry_in_place : Option ℕ → ℕ → Option ℕ
@@ -69,18 +70,31 @@ granted_expiry terms seconds = or_else seconds (expiry_in_place terms.max_expiry
 abbrev pub offer : Offer
 offer = record { maximum_qos = AtLeastOnce; retain_available = false; maximum_packet_size = Some 65536; subscription_identifiers_available = true }
 
+-- 3.1.3.5 and 3.1.3.6: a user of this name has this password; a client that names no user, or no password, is none of them
+abbrev pub admits_as : UserTable → Option (List ℕ) → Option (List ℕ) → Bool
+admits_as users (Some name) (Some password) = admits users name password
+admits_as users (Some name) None = false
+admits_as users None password = false
+
+-- a client is served: it is one of these users, where they are given
+abbrev pub is_served : Option UserTable → Connect → Bool
+is_served None c = true
+is_served (Some users) c = admits_as users c.user_name c.password
+
 -- 3.1.2.11.4 and 3.1.4, of several refusals the first: a packet of less than 5 bytes holds no CONNACK; a client that takes less
--- than 64 is refused (profile), and so is any authentication method (4.12), and an identifier of more than 128 bytes (3.1.3.1)
-abbrev pub connect_answer : Connect → FirstAnswer
-connect_answer c =
+-- than 64 is refused (profile), and so is any authentication method (4.12), an identifier of more than 128 bytes (3.1.3.1), and a client
+-- that is none of the users, where they are given (3.1.4)
+abbrev pub connect_answer : Option UserTable → Connect → FirstAnswer
+connect_answer users c =
     if is_under 5 c.properties.maximum_packet_size then Close
     else (if is_under 64 c.properties.maximum_packet_size then Refuse ImplementationSpecificError
     else (if is_some c.properties.authentication then Refuse BadAuthenticationMethod
-    else (if nat_lt 128 (length c.client_identifier) then Refuse ClientIdentifierNotValid else Attach)))
+    else (if nat_lt 128 (length c.client_identifier) then Refuse ClientIdentifierNotValid
+    else (if is_served users c then Attach else Refuse BadUserNameOrPassword))))
 
 -- 3.1: the first packet is a CONNECT; another version is refused (3.1.2.2), and so is a will (profile)
-abbrev pub first_answer : Packet → FirstAnswer
-first_answer (packets.Connect c) = connect_answer c
-first_answer (packets.OtherVersion version) = Refuse UnsupportedProtocolVersion
-first_answer packets.WithWill = Refuse ImplementationSpecificError
-first_answer _ = Close
+abbrev pub first_answer : Option UserTable → Packet → FirstAnswer
+first_answer users (packets.Connect c) = connect_answer users c
+first_answer users (packets.OtherVersion version) = Refuse UnsupportedProtocolVersion
+first_answer users packets.WithWill = Refuse ImplementationSpecificError
+first_answer users _ = Close

@@ -1,7 +1,8 @@
 //! The answer to the first packet, as far as it asks no session (sections 3.1 and 3.2).
 ghost use Rattle.std.specs.Prelude.{◌≡◌};
-ghost use Rattle.conn_rules.specs.Connecting.{first_answer, connect_answer, offer};
+ghost use Rattle.conn_rules.specs.Connecting.{first_answer, connect_answer, is_served, offer};
 
+use crate::limits::ClientLimits;
 use crate::terms::is_size_under;
 use mqtt_packet::{Connect, ConnectRefusal, MaximumPacketSize, Offer, Packet, QoS};
 
@@ -19,12 +20,12 @@ pub enum FirstAnswer {
     Attach,
 }
 
-/// What becomes of a connection at its first packet: a CONNECT of version 5 (section 3.1.2.2) without a will (profile) may open it.
-pub fn answer_to_first(packet: &Packet) -> FirstAnswer
-    ensures { result ≡ first_answer packet.now }
+/// What becomes of a connection at its first packet: a CONNECT of version 5 (section 3.1.2.2) without a will (profile) may open it. Where users are given, it is one of theirs.
+pub fn answer_to_first(limits: &ClientLimits, packet: &Packet) -> FirstAnswer
+    ensures { result ≡ first_answer limits.now.users packet.now }
 {
     match packet {
-        Packet::Connect(connect) => answer_to_connect(connect),
+        Packet::Connect(connect) => answer_to_connect(limits, connect),
         Packet::OtherVersion(_) => FirstAnswer::Refuse(ConnectRefusal::UnsupportedProtocolVersion),
         Packet::WithWill => FirstAnswer::Refuse(ConnectRefusal::ImplementationSpecificError),
         _ => FirstAnswer::Close,
@@ -32,8 +33,8 @@ pub fn answer_to_first(packet: &Packet) -> FirstAnswer
 }
 
 /// What becomes of a connection at a CONNECT: the first refusal that applies, else the client's session is looked for.
-pub fn answer_to_connect(connect: &Connect) -> FirstAnswer
-    ensures { result ≡ connect_answer connect.now }
+pub fn answer_to_connect(limits: &ClientLimits, connect: &Connect) -> FirstAnswer
+    ensures { result ≡ connect_answer limits.now.users connect.now }
 {
     let properties = &connect.properties;
     if is_size_under(5, properties.maximum_packet_size) {
@@ -48,7 +49,23 @@ pub fn answer_to_connect(connect: &Connect) -> FirstAnswer
     if connect.client_identifier.as_bytes().len() > LONGEST_CLIENT_IDENTIFIER {
         return FirstAnswer::Refuse(ConnectRefusal::ClientIdentifierNotValid);
     }
+    if !is_served(limits, connect) {
+        return FirstAnswer::Refuse(ConnectRefusal::BadUserNameOrPassword);
+    }
     FirstAnswer::Attach
+}
+
+/// Whether a client is served: where users are given, it has the name and the password of one (sections 3.1.3.5 and 3.1.3.6).
+fn is_served(limits: &ClientLimits, connect: &Connect) -> bool
+    ensures { result ≡ is_served limits.now.users connect.now }
+{
+    let Some(users) = &limits.users else {
+        return true;
+    };
+    match (&connect.user_name, &connect.password) {
+        (Some(name), Some(password)) => users.admits(name.as_bytes(), password.as_bytes()),
+        _ => false,
+    }
 }
 
 /// What the broker offers: QoS 1, no retained messages, packets of at most 65,536 bytes, and Subscription Identifiers

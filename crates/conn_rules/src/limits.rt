@@ -1,8 +1,10 @@
-//! What the broker grants a client at most, whatever it asks for (profile).
-ghost use Rattle.std.specs.Prelude.{◌≡◌, ◌<◌, ◌≤◌, ◌↔◌, IfSome, IsSome};
+//! What the broker grants a client at most, whatever it asks for, and which clients it serves (profile).
+ghost use Rattle.std.specs.Prelude.{◌≡◌, ◌<◌, ◌≤◌, ◌↔◌, IfOk, IfSome, IsSome};
 ghost use Rattle.conn_rules.specs.Connecting.{inflight_alone};
 
+use std::alloc::AllocError;
 use std::marker::Model;
+use users::SharedUsers;
 
 /// How many PUBLISH packets the broker sends a client at most that it has not acknowledged, whatever its Receive Maximum: 1 to 256 (profile).
 #[derive(Clone, Copy, Debug, PartialEq, Eq)]
@@ -129,8 +131,8 @@ impl KeepAliveLimit {
     }
 }
 
-/// What the broker grants a client at most, whatever it asks for (profile).
-#[derive(Clone, Copy, Debug, PartialEq, Eq)]
+/// What the broker grants a client at most, whatever it asks for, and which clients it serves (profile).
+#[derive(Drop)]
 pub struct ClientLimits {
     /// How many PUBLISH packets it has unacknowledged.
     pub max_inflight: MaxInflight,
@@ -138,10 +140,12 @@ pub struct ClientLimits {
     pub max_expiry: Option<ExpiryLimit>,
     /// The seconds of its keep alive, if they are limited: a client that wants no keep alive is given one then.
     pub max_keep_alive: Option<KeepAliveLimit>,
+    /// Whose clients are served: those of these users alone, if they are given, and else all.
+    pub users: Option<SharedUsers>,
 }
 
 impl ClientLimits {
-    /// This limit, and no other.
+    /// This limit, and no other; all clients are served.
     pub fn inflight_alone(max_inflight: MaxInflight) -> ClientLimits
         ensures { result ≡ inflight_alone max_inflight }
     {
@@ -149,6 +153,27 @@ impl ClientLimits {
             max_inflight,
             max_expiry: None,
             max_keep_alive: None,
+            users: None,
         }
+    }
+
+    /// The same limits, for one owner more. It takes no memory.
+    ///
+    /// # Errors
+    ///
+    /// The users have as many owners as can be counted, 2^63.
+    pub fn share(&self) -> Result<ClientLimits, AllocError>
+        ensures { IfOk result (λ shared. shared ≡ self.now) }
+    {
+        let users = match &self.users {
+            Some(users) => Some(users.share()?),
+            None => None,
+        };
+        Ok(ClientLimits {
+            max_inflight: self.max_inflight,
+            max_expiry: self.max_expiry,
+            max_keep_alive: self.max_keep_alive,
+            users,
+        })
     }
 }

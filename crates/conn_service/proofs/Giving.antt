@@ -226,7 +226,8 @@ module _ {S P T : Type 0} (call : S → SupplyCall P → S → Type 0) (begins e
               whose = life.gives.begun.asks.whose ∙ all_whose life.earlier old life.before supply life.supply_before life.till_then;
               connect = asked.0;
               comes = asked.1;
-              terms_are = asked.2;
+              served = asked.2;
+              terms_are = asked.3;
               none_before = none_sent old supply life (none_till life.earlier old life.before supply life.supply_before none life.till_then);
               no_other =
                   none_gives life.later life.after new life.supply_after supply' (some_keeps life.after.client.conn.phase life.gives.connected life.gives.has) life.from_then;

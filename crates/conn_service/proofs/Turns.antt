@@ -1,5 +1,5 @@
 -- What each act of a life is to the session of its connection.
-use Rattle.std.proofs.Common.{◌≡◌, ◌≢◌, ◌⊎◌, ℕ, Bool, List, [], ◌∷◌, ◌++◌, Option, Some, None, refl, sym, ap, subst, ◌∙◌, append-nil, inl, inr}
+use Rattle.std.proofs.Common.{◌≡◌, ◌≢◌, ◌⊎◌, ℕ, Bool, true, List, [], ◌∷◌, ◌++◌, Option, Some, None, refl, sym, ap, subst, ◌∙◌, append-nil, inl, inr}
 use Rattle.std.specs.List.{AllByRecursion}
 use Rattle.std.proofs.lemmas.List.Elements.{filter_map-append}
 use Rattle.mqtt_packet.specs.declared.packet.Connect.{Connect}
@@ -13,7 +13,7 @@ use Rattle.member_window.specs.Contents.{Contents}
 use Rattle.member_window.specs.Marks.{Mark}
 use Rattle.member_window.specs.Transcript.{IsLegalFrom}
 use Rattle.member_window.specs.Runs.{window_state}
-use Rattle.conn_rules.specs.Connecting.{terms_of}
+use Rattle.conn_rules.specs.Connecting.{is_served, terms_of}
 use Rattle.conn_rules.specs.declared.limits.ClientLimits.{ClientLimits}
 use Rattle.conn_rules.specs.declared.terms.Terms.{Terms}
 use Rattle.conn_supply.specs.declared.reply.Then.{Then}
@@ -54,12 +54,12 @@ same_conn got.Idle client bytes = refl
 same_conn got.End client bytes = refl
 same_conn got.Failed client bytes = refl
 
--- the terms of a connection that was opened with these limits are those of a CONNECT that came
+-- the terms of a connection that was opened with these limits are those of a CONNECT that came, of a client that is served
 abbrev pub IsOpen : ClientLimits → Opening → Type 0
 IsOpen limits opened = opened.limits ≡ limits
 
 abbrev pub AreAsked : ClientLimits → (Connect → Type 0) → Terms → Type 0
-AreAsked limits Came terms = (connect : Connect) × Came connect × (terms ≡ terms_of limits connect)
+AreAsked limits Came terms = (connect : Connect) × Came connect × (is_served limits.users connect ≡ true) × (terms ≡ terms_of limits connect)
 
 module _ {S P : Type 0} (call : S → SupplyCall P → S → Type 0) (slot_of : P → ℕ) where
   abbrev pub TermsAt : ClientLimits → (Connect → Type 0) → ConnPhase P → Type 0
@@ -159,7 +159,8 @@ module _ {S P T : Type 0} (call : S → SupplyCall P → S → Type 0) (slot_of 
   turn_terms limits Came act old new supply supply' comes kept (inr (inr steps)) =
       asked.within call slot_of (IsOpen limits) (AreAsked limits Came) old.client.conn.number steps.moment old.client.conn.phase new.client.conn.phase steps.input steps.packets steps.next
       supply supply' steps.stepped
-      (λ opened connect may before is. (connect, comes connect (steps.came ∙ ap (λ (i : Input). i ∷ []) is), ap (λ (l : ClientLimits). terms_of l connect) may)) kept
+      (λ opened connect may before is served.
+      (connect, comes connect (steps.came ∙ ap (λ (i : Input). i ∷ []) is), subst (λ (l : ClientLimits). is_served l.users connect ≡ true) may served, ap (λ (l : ClientLimits). terms_of l connect) may)) kept
 
   -- the number of a connection stays
   pub turn_whose : (act : Act) (old new : ServiceState P T) (supply supply' : S) → Turn act old supply new supply' → new.client.conn.number ≡ old.client.conn.number

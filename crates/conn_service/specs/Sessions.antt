@@ -1,5 +1,5 @@
 -- What one step of a life does for the session of its connection, and what all of them send of it (sections 4.4 and 4.9).
-use Rattle.std.specs.Prelude.{◌≡◌, ◌⊎◌, ℕ, Bool, false, List, [], ◌∷◌, ◌++◌, Option, None, Some, ⊤}
+use Rattle.std.specs.Prelude.{◌≡◌, ◌⊎◌, ℕ, Bool, true, false, List, [], ◌∷◌, ◌++◌, Option, None, Some, ⊤}
 use Rattle.std.specs.List.{AllByRecursion, flat_map}
 use Rattle.mqtt_packet.specs.declared.packet.Connect.{Connect}
 use Rattle.mqtt_packet.specs.declared.packet.Packet.TheVariants as packets
@@ -10,7 +10,7 @@ use Rattle.member_window.specs.Marks.{Mark, Up, Sent, Acked, Down}
 use Rattle.member_window.specs.Transcript.{IsLegalFrom}
 use Rattle.member_window.specs.Runs.{window_state}
 use Rattle.session_desk.specs.declared.session.Session.{Session}
-use Rattle.conn_rules.specs.Connecting.{terms_of}
+use Rattle.conn_rules.specs.Connecting.{is_served, terms_of}
 use Rattle.conn_rules.specs.declared.limits.ClientLimits.{ClientLimits}
 use Rattle.conn_supply.specs.declared.reply.Then.{Then}
 use Rattle.conn_supply.specs.SupplyCalls.{SupplyCall}
@@ -128,12 +128,13 @@ module _ {S P T : Type 0} (call : S → SupplyCall P → S → Type 0) (begins e
   NoneGives [] old supply new supply' does = ⊤
   NoneGives (act ∷ acts) old supply new supply' does = (¬ Gives call act old supply does.0 does.1) × NoneGives acts does.0 does.1 new supply' does.3
 
-  -- this session was asked for under the connection's number; the connection has the terms of a CONNECT that came by then, under these limits; no PUBLISH is sent before
-  -- the session is given; and no later act gives the connection another
+  -- this session was asked for under the connection's number; the connection has the terms of a CONNECT that came by then, under these limits, of a client that is served: where
+  -- users are given, it has the name and the password of one (3.1.3.5, 3.1.3.6); no PUBLISH is sent before the session is given; and no later act gives the connection another
   pub record IsGivenOnce (limits : ClientLimits) {acts : List Act} {old new : ServiceState P T} {supply supply' : S} (life : GivesSession acts old supply new supply') : Type 0 where
     pub whose : life.gives.begun.asks.request.connection ≡ old.client.conn.number
     pub connect : Connect
     pub comes : Comes connect (life.earlier ++ life.act ∷ [])
+    pub served : is_served limits.users connect ≡ true
     pub terms_are : life.gives.connected.terms ≡ terms_of limits connect
     pub none_before : publishes_in (packets_sent life.earlier) ≡ []
     pub no_other : NoneGives life.later life.after life.supply_after new supply' life.from_then

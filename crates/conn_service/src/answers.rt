@@ -15,7 +15,7 @@ pub enum Answer {
 }
 
 /// How many answers there are.
-const ANSWER_COUNT: usize = 25;
+const ANSWER_COUNT: usize = 26;
 
 /// How many numbers count them: one for each, and the last for any other.
 const PLACES: usize = ANSWER_COUNT + 1;
@@ -35,6 +35,7 @@ const ANSWERS: [Answer; ANSWER_COUNT] = [
     Answer::Connack(ReasonCode::IMPLEMENTATION_SPECIFIC_ERROR),
     Answer::Connack(ReasonCode::UNSUPPORTED_PROTOCOL_VERSION),
     Answer::Connack(ReasonCode::CLIENT_IDENTIFIER_NOT_VALID),
+    Answer::Connack(ReasonCode::BAD_USER_NAME_OR_PASSWORD),
     Answer::Connack(ReasonCode::SERVER_BUSY),
     Answer::Connack(ReasonCode::BAD_AUTHENTICATION_METHOD),
     Answer::Disconnect(ReasonCode::MALFORMED_PACKET),
@@ -64,6 +65,7 @@ fn refusal_code(refusal: ConnectRefusal) -> ReasonCode {
         ConnectRefusal::ImplementationSpecificError => ReasonCode::IMPLEMENTATION_SPECIFIC_ERROR,
         ConnectRefusal::UnsupportedProtocolVersion => ReasonCode::UNSUPPORTED_PROTOCOL_VERSION,
         ConnectRefusal::ClientIdentifierNotValid => ReasonCode::CLIENT_IDENTIFIER_NOT_VALID,
+        ConnectRefusal::BadUserNameOrPassword => ReasonCode::BAD_USER_NAME_OR_PASSWORD,
         ConnectRefusal::ServerBusy => ReasonCode::SERVER_BUSY,
         ConnectRefusal::BadAuthenticationMethod => ReasonCode::BAD_AUTHENTICATION_METHOD,
     }

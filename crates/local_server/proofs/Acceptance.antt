@@ -447,7 +447,7 @@ first_none first.Attach old new number limits now packet phase reply does =
 
 -- a PUBLISH before any CONNECT
 stops_first : (packet : Packet) (old new : Broker) (number : ℕ) (limits : ClientLimits) (now : ℕ) (phase : ConnPhase GroupPlace) (reply : Reply)
-    → AnswersFirst Calls slot_of (first_answer packet) old number limits now packet phase reply new → StopsAtPublish (inputs.Packet packet) reply
+    → AnswersFirst Calls slot_of (first_answer limits.users packet) old number limits now packet phase reply new → StopsAtPublish (inputs.Packet packet) reply
 stops_first (packets.Publish its) old new number limits now phase reply does = stops (inputs.Packet (packets.Publish its)) reply _ does.0.told (λ go. cc)
 stops_first (packets.Connect packet) old new number limits now phase reply does = λ publish identifier came delivery go. cc
 stops_first (packets.Connack packet) old new number limits now phase reply does = λ publish identifier came delivery go. cc
@@ -467,8 +467,8 @@ reacted : (phase : ConnPhase GroupPlace) (input : Input) (old new : Broker) (num
     → Reacts Calls slot_of old number phase now input between reply new → Acked old number input reply new ⊎ NotAcked old input reply new
 reacted (Unconnected opened) (inputs.Packet packet) old new number now between reply does =
     inr (
-      answers_first Calls slot_of (first_answer packet) old new number opened.limits now packet between reply does,
-      first_none (first_answer packet) old new number opened.limits now packet between reply does,
+      answers_first Calls slot_of (first_answer opened.limits.users packet) old new number opened.limits now packet between reply does,
+      first_none (first_answer opened.limits.users packet) old new number opened.limits now packet between reply does,
       stops_first packet old new number opened.limits now between reply does,
     )
 reacted (Waiting request ticks) (inputs.Packet packet) old new number now between reply does = absurd does

@@ -232,7 +232,7 @@ reacted : (phase : ConnPhase GroupPlace) (input : Input) (ledger : Ledger) (numb
     → Reacts Calls slot_of old number phase now input phase' reply new → HoldsAs (with_hand ledger number None) old (connected_of phase)
     → Done (with_hand ledger number None) old number now (connected_of phase) input (connected_of phase') new
 reacted (Unconnected opened) (inputs.Packet packet) ledger number old new now phase' reply does was =
-    quietly _ old new number now None (connected_of phase') (inputs.Packet packet) tt (first_answered (first_answer packet) _ old new number opened.limits now packet phase' reply does was)
+    quietly _ old new number now None (connected_of phase') (inputs.Packet packet) tt (first_answered (first_answer opened.limits.users packet) _ old new number opened.limits now packet phase' reply does was)
 reacted (Unconnected opened) (inputs.Fault fault) ledger number old new now phase' reply does was =
     quietly _ old new number now None (connected_of phase') (inputs.Fault fault) tt (stays_over _ old new phase' (refused_if (fault_refusal fault) phase' reply does.0) does.1 was)
 reacted (Unconnected opened) inputs.Tick ledger number old new now phase' reply does was =

@@ -141,7 +141,7 @@ module _ {S P : Type 0} (call : S → SupplyCall P → S → Type 0) (slot_of : 
 
   pub replied : (phase : ConnPhase P) (input : Input) (old new : S) (number now : ℕ) (between : ConnPhase P) (reply : Reply) → IsNoPublish input
       → Reacts call slot_of old number phase now input between reply new → IsNoPuback reply
-  replied (Unconnected opened) (inputs.Packet packet) old new number now between reply other is = answers_first (first_answer packet) old new number opened.limits now packet between reply is
+  replied (Unconnected opened) (inputs.Packet packet) old new number now between reply other is = answers_first (first_answer opened.limits.users packet) old new number opened.limits now packet between reply is
   replied (Unconnected opened) (inputs.Fault fault) old new number now between reply other is = refused_if (fault_refusal fault) between reply is.0
   replied (Unconnected opened) inputs.Tick old new number now between reply other is = waits_for_connect _ opened between reply is.1
   replied (Unconnected opened) inputs.EndOfInput old new number now between reply other is = closes between reply is.0

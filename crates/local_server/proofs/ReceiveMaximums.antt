@@ -53,7 +53,7 @@ has_asked limit came Ended input has = has
 
 asks : (limit : ℕ) (came : Option Connect) (phase : ConnPhase GroupPlace) (input : Input)
     → terms_asked.Asks Calls slot_of (OpenedWith limit) (Asked limit (connect_once came phase input)) phase input
-asks limit came phase input opened connect with_limit before is =
+asks limit came phase input opened connect with_limit before is served =
     (connect, (λ i. connect_once came (before i) (is i)), ap (λ (l : ClientLimits). terms_of l connect) with_limit)
 
 least_of : (limit asked n : ℕ) → n ≤ min (min limit asked) 256 → (n ≤ asked) × (n ≤ limit) × (n ≤ 256)

@@ -350,7 +350,7 @@ module _ (n : ℕ) where
   reply_out : (phase : ConnPhase GroupPlace) (input : Input) (old new : Broker) (number now : ℕ) (between : ConnPhase GroupPlace) (reply : Reply) → (session_at phase ≡ Some n → IsOut phase)
       → (session_at phase ≡ Some n → GrantsNone input reply) → Reacts Calls slot_of old number phase now input between reply new → IsOutThere n old.desk → After between new
   reply_out (Unconnected opened) (inputs.Packet packet) old new number now between reply out none is was =
-      answers_first (first_answer packet) old new number opened.limits now packet between reply is was
+      answers_first (first_answer opened.limits.users packet) old new number opened.limits now packet between reply is was
   reply_out (Unconnected opened) (inputs.Fault fault) old new number now between reply out none is was =
       over between new (refused_if (fault_refusal fault) between reply is.0) (same_broker old new is.1 was)
   reply_out (Unconnected opened) inputs.Tick old new number now between reply out none is was =

@@ -59,7 +59,7 @@ const unescaped = text => text.replace(/\\(.)/g, (_, next) => next === 'n' ? '\n
 const PACKETS = { connacks_total: 'CONNACK', pubacks_total: 'PUBACK', subacks_total: 'SUBACK', disconnects_total: 'DISCONNECT' };
 const CODES = {
   '0x10': 'no matching subscribers', '0x81': 'malformed packet', '0x82': 'protocol error', '0x83': 'implementation specific error',
-  '0x84': 'unsupported protocol version', '0x85': 'client identifier not valid', '0x87': 'not authorized', '0x89': 'server busy', '0x8B': 'server shutting down',
+  '0x84': 'unsupported protocol version', '0x85': 'client identifier not valid', '0x86': 'bad user name or password', '0x87': 'not authorized', '0x89': 'server busy', '0x8B': 'server shutting down',
   '0x8C': 'bad authentication method', '0x8D': 'keep alive timeout', '0x8E': 'session taken over', '0x8F': 'topic filter invalid',
   '0x94': 'topic alias invalid', '0x95': 'packet too large', '0x97': 'quota exceeded', '0x9A': 'retain not supported', '0x9B': 'QoS not supported',
 };

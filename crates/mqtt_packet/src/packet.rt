@@ -87,6 +87,8 @@ pub enum ConnectRefusal {
     UnsupportedProtocolVersion,
     /// 85.
     ClientIdentifierNotValid,
+    /// 86.
+    BadUserNameOrPassword,
     /// 89.
     ServerBusy,
     /// 8C.

@@ -41,6 +41,8 @@ impl ReasonCode {
 
     pub const CLIENT_IDENTIFIER_NOT_VALID: ReasonCode = ReasonCode { code: 0x85 };
 
+    pub const BAD_USER_NAME_OR_PASSWORD: ReasonCode = ReasonCode { code: 0x86 };
+
     pub const NOT_AUTHORIZED: ReasonCode = ReasonCode { code: 0x87 };
 
     pub const SERVER_BUSY: ReasonCode = ReasonCode { code: 0x89 };

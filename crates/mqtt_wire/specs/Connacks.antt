@@ -58,6 +58,7 @@ refusal_code refusals.ProtocolError = 0x82
 refusal_code refusals.ImplementationSpecificError = 0x83
 refusal_code refusals.UnsupportedProtocolVersion = 0x84
 refusal_code refusals.ClientIdentifierNotValid = 0x85
+refusal_code refusals.BadUserNameOrPassword = 0x86
 refusal_code refusals.ServerBusy = 0x89
 refusal_code refusals.BadAuthenticationMethod = 0x8C
 

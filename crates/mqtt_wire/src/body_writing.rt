@@ -146,6 +146,7 @@ fn refusal_code(refusal: ConnectRefusal) -> u8
         ConnectRefusal::ImplementationSpecificError => 0x83,
         ConnectRefusal::UnsupportedProtocolVersion => 0x84,
         ConnectRefusal::ClientIdentifierNotValid => 0x85,
+        ConnectRefusal::BadUserNameOrPassword => 0x86,
         ConnectRefusal::ServerBusy => 0x89,
         ConnectRefusal::BadAuthenticationMethod => 0x8C,
     }

@@ -20,6 +20,7 @@ use std::time::Duration;
 use std::{io, thread};
 use tcp_server::{ListenAt, ServeSettings, serve_at};
 use text_io::RunError;
+use users::{SharedUsers, Users};
 
 /// For how many milliseconds a read waits before it looks again, and how often it looks at most.
 const PAUSE: u64 = 5;
@@ -58,14 +59,15 @@ pub(crate) struct Counts {
     pub(crate) discardable: u64,
 }
 
-/// Where a broker listens, how many workers it has, for how many seconds it drains at most, what its clients are granted at most, what it does with shares that are not declared, and how
-/// many connections an address may have, 0 for any number. Where it refuses shares, `$share/g/job` is declared.
-#[derive(Clone, Copy)]
+/// Where a broker listens, how many workers it has, for how many seconds it drains at most, what its clients are granted at most, the file of its users, if there is one, what it does with shares that are
+/// not declared, and how many connections an address may have, 0 for any number. Where it refuses shares, `$share/g/job` is declared.
+#[derive(Drop)]
 pub(crate) struct Listener {
     pub(crate) port: u16,
     pub(crate) workers: u8,
     pub(crate) drain: u32,
     pub(crate) limits: ClientLimits,
+    pub(crate) users: Option<&'static [u8]>,
     pub(crate) new_shares: NewShares,
     pub(crate) per_address: u32,
 }
@@ -78,6 +80,7 @@ impl Listener {
             workers,
             drain: 0,
             limits: ClientLimits::inflight_alone(MaxInflight::most()),
+            users: None,
             new_shares: NewShares::Bound,
             per_address: 0,
         }
@@ -133,33 +136,51 @@ fn pass<R: Net<Listener = TcpListener, Stream = TcpStream> + Clock, D: Day>(
     saw
 }
 
+/// The same limits with the users of that file, if there is one; with none, where it is at fault or an allocation fails.
+fn with_users(alloc: Global, mut limits: ClientLimits, text: Option<&[u8]>) -> ClientLimits {
+    limits.users = text.and_then(|text| users_in(alloc, text));
+    limits
+}
+
+/// The users of that file; `None` where it is at fault, or an allocation fails.
+fn users_in(alloc: Global, text: &[u8]) -> Option<SharedUsers> {
+    Users::parse(alloc, text).ok()?.into_shared(alloc).ok()
+}
+
 /// Serves until the flag is set. How it ended, and what was written.
-fn serve<R: Threads + Wait + Net<Listener = TcpListener, Stream = TcpStream> + Clock + Sync>(
-    rt: &R,
+fn serve<'a, R: Threads + Wait + Net<Listener = TcpListener, Stream = TcpStream> + Clock + Sync>(
+    rt: &'a R,
     alloc: Global,
     broker: Listener,
-    closes: &AtomicBool,
+    closes: &'a AtomicBool,
 ) -> (Result<(), RunError>, Vec<u8>) {
+    let Listener {
+        port,
+        workers,
+        drain,
+        limits,
+        users,
+        new_shares,
+        per_address,
+    } = broker;
     let settings = ServeSettings {
         capacity: 64,
-        workers: broker.workers.clamp(1, 64),
-        limits: broker.limits,
-        drain: broker.drain,
+        workers: workers.clamp(1, 64),
+        limits: with_users(alloc, limits, users),
+        drain,
         newcomers: Newcomers::Displace,
-        new_shares: broker.new_shares,
-        per_address: broker.per_address,
+        new_shares,
+        per_address,
     };
     let at = ListenAt {
         address: Ipv4Addr::LOCALHOST,
-        port: broker.port,
+        port,
         metrics: 0,
     };
     let mut input = Held { rt, ends: closes };
     let mut output = Vec::new(alloc);
-    let (Ok(log), Some(groups)) = (
-        Log::open(alloc, Level::Off),
-        groups_of(alloc, broker.new_shares),
-    ) else {
+    let (Ok(log), Some(groups)) = (Log::open(alloc, Level::Off), groups_of(alloc, new_shares))
+    else {
         return (Err(RunError::Memory), output);
     };
     let ended = serve_at(

@@ -1,5 +1,5 @@
 -- What is discarded is what the client is not to be sent, and nothing else.
-use Rattle.std.proofs.Common.{◌≡◌, ◌≢◌, ◌↔◌, ℕ, zero, suc, ◌<◌, ◌≤◌, ◌==◌, Bool, true, false, List, [], ◌∷◌, ◌++◌, map, length, drop, slice_get, Option, Some, refl, sym, ap, ◌∙◌, subst, ⊎_elim, arith}
+use Rattle.std.proofs.Common.{◌≡◌, ◌≢◌, ◌↔◌, ℕ, zero, suc, ◌<◌, ◌≤◌, ◌==◌, Bool, true, false, List, [], ◌∷◌, ◌++◌, map, length, drop, slice_get, Option, Some, None, refl, sym, ap, ◌∙◌, subst, ⊎_elim, arith}
 use Rattle.std.proofs.lemmas.Bool.{cases_eq, cond_both}
 use Rattle.std.proofs.lemmas.Option.{none-some, same_Some}
 use Rattle.mqtt_packet.specs.declared.packet.Connect.{Connect}
@@ -204,5 +204,5 @@ module _ (setup : Setup) (connect : Connect) (packets : List Packet) (slot place
       slice_get (accepted_in slot solo.groups) place ≡ Some message → slice_get (handed_in slot solo.handed_out) place ≡ Some one
       → (one.outcome ≡ Discarded) ↔ (is_discarded (terms_under connect.properties.maximum_packet_size one.subscription) message ≡ true)
   discarded_all there its =
-      let same = by_answer (connect_answer connect) (fit_all setup (kinds.Connect connect ∷ packets)) there its in
+      let same = by_answer (connect_answer None connect) (fit_all setup (kinds.Connect connect ∷ packets)) there its in
       (λ is. sym same ∙ ap discards is, λ due. is_discarded_out one.outcome (same ∙ due))

@@ -307,7 +307,7 @@ module _ (setup : Setup) (connect : Connect) (packets : List Packet) where
       (omega (arith, same, few, kept.room), λ connected. ap (λ (n : ℕ). min n 256) same)
 
   pub within_maximum : Within (run_of setup (kinds.Connect connect ∷ packets)).solo
-  within_maximum = by_answer (connect_answer connect) (kept_of setup (kinds.Connect connect ∷ packets))
+  within_maximum = by_answer (connect_answer None connect) (kept_of setup (kinds.Connect connect ∷ packets))
 
 -- ---- after the close of the connection
 

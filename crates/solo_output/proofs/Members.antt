@@ -277,7 +277,7 @@ connect_does (first.Refuse refusal) connect solo = answers_closing (packets.Conn
 connect_does first.Attach connect solo = keeps_all (packets.Connect connect) neither solo (first_reply_as first.Attach (packets.Connect connect) solo) refl refl (inl refl)
 
 first_does : (packet : Packet) (solo : SoloState) → Does packet solo (reply_in Unconnected packet solo)
-first_does (packets.Connect connect) solo = connect_does (connect_answer connect) connect solo
+first_does (packets.Connect connect) solo = connect_does (connect_answer None connect) connect solo
 first_does (packets.Publish publish) solo = closes (packets.Publish publish) solo
 first_does (packets.Puback puback) solo = closes (packets.Puback puback) solo
 first_does (packets.Subscribe subscribe) solo = closes (packets.Subscribe subscribe) solo

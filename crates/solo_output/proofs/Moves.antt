@@ -213,7 +213,7 @@ module _ (R : SoloState → SoloState → Type 0) (ways : Ways R) (accepts : Acc
   later packets.WithWill solo = ways.closes solo
 
   replies : (phase : Phase) (packet : Packet) (solo : SoloState) → solo.phase ≡ phase → R solo (reply_in phase packet solo).solo
-  replies Unconnected packet solo is = firsts R ways (first_answer packet) packet solo is
+  replies Unconnected packet solo is = firsts R ways (first_answer None packet) packet solo is
   replies Connected packet solo is = later packet solo
   replies Closed packet solo is = ways.stays solo
 

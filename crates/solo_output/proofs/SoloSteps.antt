@@ -138,7 +138,8 @@ module _ (capacity : ℕ) (opened : Opening) (shares : List Share) (old : Broker
   pub first_step : (packet : Packet) (all : List Packet) (next : Then) (phase : ConnPhase GroupPlace) (new : Broker)
       → Steps Calls slot_at old 0 (phases.Unconnected opened) 0 (inputs.Packet packet) all next phase new → Stepped (solo_step packet (opening capacity opened.limits.max_inflight shares)) all next phase new
   first_step packet all next phase new does =
-      let got = first_packet (first_answer packet) packet does.between does.reply does.mid does.reacts in
+      let reacts = subst (λ (limits : ClientLimits). AnswersFirst Calls slot_at (first_answer limits.users packet) old 0 opened.limits 0 packet does.between does.reply does.mid) alone does.reacts in
+      let got = first_packet (first_answer None packet) packet does.between does.reply does.mid reacts in
       stepped (first_reply packet (opening capacity opened.limits.max_inflight shares)) does.between phase does.reply does.mid new does.sent all next got.packet does.hands does.written does.followed got.stands
 
   -- the last step of a client that never connected

@@ -165,7 +165,7 @@ first_quiet first.Attach packet solo = attach_quiet packet solo
 
 answers_in : (phase : Phase) (packet : Packet) (solo : SoloState) → solo.phase ≡ phase → Answers packet solo (λ slot. taken_in_phase phase packet slot solo) (reply_in phase packet solo)
 answers_in Unconnected packet solo is =
-    unmoved packet solo (first_reply_as (first_answer packet) packet solo) (first_quiet (first_answer packet) packet solo) (firsts Same sames (first_answer packet) packet solo is)
+    unmoved packet solo (first_reply_as (first_answer None packet) packet solo) (first_quiet (first_answer None packet) packet solo) (firsts Same sames (first_answer None packet) packet solo is)
 answers_in Connected packet solo is = later_answers packet solo
 answers_in Closed packet solo is = unmoved packet solo _ refl (sames.stays solo)
 

@@ -39,7 +39,7 @@ first_reply_as (first.Refuse refusal) packet solo = closing (Some (refusing refu
 first_reply_as first.Attach packet solo = attach_reply packet solo
 
 abbrev pub first_reply : Packet → SoloState → Reply
-first_reply packet solo = first_reply_as (first_answer packet) packet solo
+first_reply packet solo = first_reply_as (first_answer None packet) packet solo
 
 -- the session has this expiry from now on
 abbrev pub with_expiry : ℕ → SoloState → SoloState

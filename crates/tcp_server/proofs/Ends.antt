@@ -4,7 +4,7 @@ use Rattle.std.specs.Prelude.{Any}
 use Rattle.std.proofs.lemmas.Bool.{false≢true}
 use Rattle.std.proofs.lemmas.List.Elements.{All-cons}
 use Rattle.text_io.specs.declared.error.RunError.{RunError}
-use Rattle.text_io.specs.declared.error.RunError.TheVariants.{ReadFailed, TooManyReads, WriteFailed, Network, Memory, TooFewDescriptors, Unfinished, Line}
+use Rattle.text_io.specs.declared.error.RunError.TheVariants.{ReadFailed, TooManyReads, WriteFailed, Network, UsersUnread, NoRandomBytes, Memory, TooFewDescriptors, Unfinished, Line, UsersLine}
 use Rattle.group_jobs.specs.declared.report.Report.{Report}
 use Rattle.group_queue.specs.declared.error.FinishError.{FinishError}
 use Rattle.group_queue.specs.declared.error.FinishError.TheVariants as refusals
@@ -37,6 +37,9 @@ with_report (Err Memory) report reports ends = (contains_more (Ok report) (Err r
 with_report (Err TooFewDescriptors) report reports ends = ends
 with_report (Err Unfinished) report reports ends = any_more (Ok report) reports ends
 with_report (Err (Line number)) report reports ends = ends
+with_report (Err UsersUnread) report reports ends = ends
+with_report (Err NoRandomBytes) report reports ends = ends
+with_report (Err (UsersLine number)) report reports ends = ends
 
 -- one for which there was no memory
 pub without_memory : (reports : Reports) → All IsOk reports → EndsBy {X = Unit {0}} (Err Memory) (Err refusals.Memory ∷ reports)

@@ -7,7 +7,7 @@ use Rattle.text_io.proofs.Failures.{write_failed}
 use Rattle.text_io.specs.Passing.{Begins}
 use Rattle.text_io.specs.Status.{IsOfWriting}
 use Rattle.text_io.specs.declared.error.RunError.{RunError}
-use Rattle.text_io.specs.declared.error.RunError.TheVariants.{ReadFailed, TooManyReads, WriteFailed, Network, Memory, TooFewDescriptors, Unfinished, Line}
+use Rattle.text_io.specs.declared.error.RunError.TheVariants.{ReadFailed, TooManyReads, WriteFailed, Network, UsersUnread, NoRandomBytes, Memory, TooFewDescriptors, Unfinished, Line, UsersLine}
 use Rattle.mqtt_topic.specs.Names.{Share}
 use Rattle.gate_word.specs.Seats.{GateId}
 use Rattle.group_queue.specs.declared.witness.Nobody.{Nobody}
@@ -34,6 +34,9 @@ whole line capacity workers limits given (Err Memory) old new written = inr writ
 whole line capacity workers limits given (Err TooFewDescriptors) old new written = absurd written.reports.ends
 whole line capacity workers limits given (Err Unfinished) old new written = written
 whole line capacity workers limits given (Err (Line number)) old new written = absurd written.reports.ends
+whole line capacity workers limits given (Err UsersUnread) old new written = absurd written.reports.ends
+whole line capacity workers limits given (Err NoRandomBytes) old new written = absurd written.reports.ends
+whole line capacity workers limits given (Err (UsersLine number)) old new written = absurd written.reports.ends
 
 pub all : {X : Type 0} (line : List ℕ) (capacity workers : ℕ) (limits : ClientLimits) (given : List Share) (end : Result X RunError) (result : Result (Unit {0}) RunError) (old mid new : Option (List ℕ)) (text : List ℕ)
     → ((reports : List (Result Report FinishError)) → EndsBy end reports → EndsBy result reports) → AreReportsAt end capacity workers limits given text → Appends old mid line → Appends mid new text
@@ -67,6 +70,9 @@ unreported line capacity workers limits given Memory old new ends = inl ends
 unreported line capacity workers limits given TooFewDescriptors old new ends = ends
 unreported line capacity workers limits given Unfinished old new ends = absurd ends
 unreported line capacity workers limits given (Line number) old new ends = absurd ends
+unreported line capacity workers limits given UsersUnread old new ends = absurd ends
+unreported line capacity workers limits given NoRandomBytes old new ends = absurd ends
+unreported line capacity workers limits given (UsersLine number) old new ends = absurd ends
 
 pub no_memory : (line : List ℕ) (error : RunError) (known : Option (List ℕ)) → error ≡ Memory → EndsUnreported line error known known
 no_memory line error known is = subst (λ e. EndsUnreported line e known known) (sym is) (inl (Keeps-refl known))

@@ -2,7 +2,7 @@
 use Rattle.std.specs.Prelude.{◌≡◌, ◌⊎◌, Bool, true, false, List, [], All, Any, Contains, IsOk, Result, Ok, Err, ⊤, zip, flat_map, ℕ}
 use Rattle.mqtt_topic.specs.Names.{Share}
 use Rattle.text_io.specs.declared.error.RunError.{RunError}
-use Rattle.text_io.specs.declared.error.RunError.TheVariants.{ReadFailed, TooManyReads, WriteFailed, Network, Memory, TooFewDescriptors, Unfinished as NotKnown, Line}
+use Rattle.text_io.specs.declared.error.RunError.TheVariants.{ReadFailed, TooManyReads, WriteFailed, Network, UsersUnread, NoRandomBytes, Memory, TooFewDescriptors, Unfinished as NotKnown, Line, UsersLine}
 use Rattle.worker_pool.specs.declared.accepting.SourceEnd.{SourceEnd}
 use Rattle.worker_pool.specs.declared.accepting.SourceEnd.TheVariants as sources
 use Rattle.tcp_server.specs.declared.serving.ServingEnd.{ServingEnd}
@@ -47,6 +47,9 @@ EndsBy (Err Memory) reports = Contains reports (Err refusals.Memory) × All (λ 
 EndsBy (Err TooFewDescriptors) reports = ⊥
 EndsBy (Err NotKnown) reports = Any IsRefused reports
 EndsBy (Err (Line number)) reports = ⊥
+EndsBy (Err UsersUnread) reports = ⊥
+EndsBy (Err NoRandomBytes) reports = ⊥
+EndsBy (Err (UsersLine number)) reports = ⊥
 
 -- how a broker ends whose groups gave all reports, by how its source ended and whether its input was read to its end; or why they did not
 abbrev pub EndsFor : SourceEnd → Bool → Result ServingEnd RunError → Type 0

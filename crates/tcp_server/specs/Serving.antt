@@ -5,7 +5,7 @@ use Rattle.std.specs.Io.KnownBytes.{Appends, Keeps}
 use Rattle.text_io.specs.Passing.{Begins}
 use Rattle.text_io.specs.declared.error.DeviceFault.{DeviceFault}
 use Rattle.text_io.specs.declared.error.RunError.{RunError}
-use Rattle.text_io.specs.declared.error.RunError.TheVariants.{ReadFailed, TooManyReads, WriteFailed, Network, Memory, TooFewDescriptors, Unfinished, Line}
+use Rattle.text_io.specs.declared.error.RunError.TheVariants.{ReadFailed, TooManyReads, WriteFailed, Network, UsersUnread, NoRandomBytes, Memory, TooFewDescriptors, Unfinished, Line, UsersLine}
 use Rattle.mqtt_topic.specs.Names.{Share}
 use Rattle.conn_rules.specs.declared.limits.ClientLimits.{ClientLimits}
 use Rattle.tcp_edge.specs.Sources.{IsPortFor}
@@ -37,6 +37,9 @@ EndsUnreported line Memory old new = Keeps old new ⊎ Appends old new line
 EndsUnreported line TooFewDescriptors old new = Keeps old new
 EndsUnreported line Unfinished old new = ⊥
 EndsUnreported line (Line number) old new = ⊥
+EndsUnreported line UsersUnread old new = ⊥
+EndsUnreported line NoRandomBytes old new = ⊥
+EndsUnreported line (UsersLine number) old new = ⊥
 
 -- what a broker whose first line is this has written, by how it ended
 abbrev pub IsServed : List ℕ → ℕ → ℕ → ClientLimits → List Share → Result (Unit {0}) RunError → Option (List ℕ) → Option (List ℕ) → Type 0
@@ -49,6 +52,9 @@ IsServed line capacity workers limits given (Err Memory) old new = (Keeps old ne
 IsServed line capacity workers limits given (Err TooFewDescriptors) old new = Keeps old new
 IsServed line capacity workers limits given (Err Unfinished) old new = WritesAll line capacity workers limits given (Err Unfinished) old new
 IsServed line capacity workers limits given (Err (Line number)) old new = ⊥
+IsServed line capacity workers limits given (Err UsersUnread) old new = ⊥
+IsServed line capacity workers limits given (Err NoRandomBytes) old new = ⊥
+IsServed line capacity workers limits given (Err (UsersLine number)) old new = ⊥
 
 -- the same at the port that was asked for, or at any where that is 0; or it was not listened at, and nothing was written
 abbrev pub IsServedAt : ℕ → ℕ → ℕ → ClientLimits → List Share → Result (Unit {0}) RunError → Option (List ℕ) → Option (List ℕ) → Type 0

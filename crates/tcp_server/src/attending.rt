@@ -9,9 +9,8 @@ use crate::drain::Drain;
 use crate::lobby::Lobby;
 use crate::outcome::{Reported, report_outcome};
 use crate::serving::ServingEnd;
-use crate::settings::ServeSettings;
 use crate::setup::SocketSetup;
-use crate::watching::Watching;
+use crate::watching::{DrainSettings, Watching};
 use broker_groups::Broker;
 use broker_log::{Level, Log};
 use call_history::HistoryName;
@@ -45,7 +44,7 @@ pub(crate) fn attend<
     alloc: Global,
     broker: OpenBroker<'_, B, N>,
     groups: &Routes,
-    settings: ServeSettings,
+    draining: DrainSettings,
     ends: &'x AtomicBool,
     drain: &'x Drain,
     metrics: Option<Metrics<'x, R>>,
@@ -67,7 +66,7 @@ pub(crate) fn attend<
         stopper,
         ends,
         drain,
-        settings,
+        settings: draining,
         alloc,
         log,
         is_read: false,

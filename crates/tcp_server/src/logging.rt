@@ -300,6 +300,7 @@ fn name_of(code: ReasonCode) -> &'static str {
         0x83 => "Implementation specific error",
         0x84 => "Unsupported Protocol Version",
         0x85 => "Client Identifier not valid",
+        0x86 => "Bad User Name or Password",
         0x89 => "Server busy",
         0x8B => "Server shutting down",
         0x8C => "Bad authentication method",

@@ -19,6 +19,7 @@ use crate::logging::BrokerLog;
 use crate::outcome::Reported;
 use crate::settings::ServeSettings;
 use crate::setup::socket_setup;
+use crate::watching::DrainSettings;
 use broker_groups::{Broker, BrokerName, BrokerPlace, Opened, Witnessed};
 use broker_log::Log;
 use call_history::HistoryName;
@@ -272,6 +273,11 @@ fn live_with<
     let stopper = Closer::take(gate, &mut seats);
     let ends = AtomicBool::new(false);
     let drain = Drain::new();
+    let draining = DrainSettings {
+        workers: settings.workers,
+        seconds: settings.drain,
+    };
+    let capacity = settings.capacity as u64;
     let count = usize::from(settings.workers);
     let told = if metrics.is_some() { count } else { 0 };
     let Ok(places) = shared_counts(alloc, told) else {
@@ -300,7 +306,7 @@ fn live_with<
         alloc,
         workers: &places,
         shares: groups.shares(),
-        capacity: settings.capacity as u64,
+        capacity,
         turned_away: TurnedAway::NONE,
     };
     let metrics = match metrics {
@@ -309,7 +315,7 @@ fn live_with<
     };
     match write_all(output, line) {
         Ok(()) => attend(
-            rt, alloc, broker, groups, settings, &ends, &drain, metrics, log, setup, lobby,
+            rt, alloc, broker, groups, draining, &ends, &drain, metrics, log, setup, lobby,
             closers, stopper, input,
         ),
         Err(error) => {

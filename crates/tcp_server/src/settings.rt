@@ -4,13 +4,13 @@ use session_desk::Newcomers;
 use shared_routes::NewShares;
 
 /// How a broker on TCP serves.
-#[derive(Clone, Copy, Debug, PartialEq, Eq)]
+#[derive(Drop)]
 pub struct ServeSettings {
     /// How many messages may wait in each group for their first hand-out, from 1 to 65,536.
     pub capacity: usize,
     /// How many workers there are, from 1 to 64.
     pub workers: u8,
-    /// What a client is granted at most, whatever it asks for.
+    /// What a client is granted at most, whatever it asks for, and which clients are served.
     pub limits: ClientLimits,
     /// For how many seconds at most the broker drains once its input has ended; 0 where it does not drain.
     pub drain: u32,

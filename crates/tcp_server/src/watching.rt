@@ -3,7 +3,6 @@ ghost use Rattle.std.specs.Prelude.{◌≡◌, true};
 ghost use Rattle.std.specs.Io.KnownBytes.{IsAtEnd};
 
 use crate::drain::Drain;
-use crate::settings::ServeSettings;
 use broker_groups::Broker;
 use broker_log::{Level, Log};
 use std::alloc::Global;
@@ -40,6 +39,15 @@ enum DrainEnd {
     Closed,
 }
 
+/// How a broker drains.
+#[derive(Clone, Copy)]
+pub(crate) struct DrainSettings {
+    /// How many workers there are, which all have to have settled what they accepted.
+    pub(crate) workers: u8,
+    /// For how many seconds at most; 0 where it does not drain.
+    pub(crate) seconds: u32,
+}
+
 /// Reads the input to its end, has the broker drain, and closes it soon after that.
 #[derive(Drop)]
 pub(crate) struct Watching<'a, B: Broker, R> {
@@ -47,7 +55,7 @@ pub(crate) struct Watching<'a, B: Broker, R> {
     pub(crate) stopper: Closer<'a, B>,
     pub(crate) ends: &'a AtomicBool,
     pub(crate) drain: &'a Drain,
-    pub(crate) settings: ServeSettings,
+    pub(crate) settings: DrainSettings,
     pub(crate) alloc: Global,
     pub(crate) log: &'a Log,
     /// Whether the input has ended, and did not fail.
@@ -62,7 +70,7 @@ impl<'a, B: Broker, R: SystemClock, I: Read> Watch<I> for Watching<'a, B, R> {
 
     fn run(&mut self, input: &mut I) {
         self.is_read = read_to_end(self.rt, self.log, input);
-        say_input_over(self.log, self.alloc, self.is_read, self.settings.drain);
+        say_input_over(self.log, self.alloc, self.is_read, self.settings.seconds);
         let end = wait_until_settled(self.rt, self.drain, self.settings, &mut self.stopper);
         say_drained(self.log, self.alloc, end);
         thread::sleep(self.rt, Duration::from_millis(CLOSE_DELAY));
@@ -111,13 +119,13 @@ fn say_drained(log: &Log, alloc: Global, end: DrainEnd) {
 fn wait_until_settled<B: Broker, R: SystemClock>(
     rt: &R,
     drain: &Drain,
-    settings: ServeSettings,
+    settings: DrainSettings,
     stopper: &mut Closer<'_, B>,
 ) -> DrainEnd {
-    if settings.drain == 0 {
+    if settings.seconds == 0 {
         return DrainEnd::NotAsked;
     }
-    let most = Duration::from_secs(u64::from(settings.drain));
+    let most = Duration::from_secs(u64::from(settings.seconds));
     let Ok(start) = Instant::now(rt) else {
         return DrainEnd::Over;
     };

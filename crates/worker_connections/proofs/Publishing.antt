@@ -185,7 +185,7 @@ module _ (group : ℕ → GroupId) (seen : Sights) where
   reacted : (phase : ConnPhase PlaceState) (publish : Publish) (old new : Worker) (number now : ℕ) (between : ConnPhase PlaceState) (reply : Reply)
       → Reacts (Calls group seen) slot_of old number phase now (inputs.Packet (packets.Publish publish)) between reply new → RepliesTo now publish (publisher_of old) between reply (publisher_of new)
   reacted (Unconnected opened) publish old new number now between reply is =
-      first_answered (first_answer (packets.Publish publish)) old new number opened.limits now publish between reply is
+      first_answered (first_answer opened.limits.users (packets.Publish publish)) old new number opened.limits now publish between reply is
   reacted (Waiting request ticks) publish old new number now between reply is = absurd is
   reacted (Connected connected) publish old new number now between reply is =
       let asked = asked_of_desk number is.0 old is.1 is.2 in

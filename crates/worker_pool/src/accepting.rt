@@ -249,17 +249,30 @@ impl<'a, B: Broker, T: Transport + Drop, S: Source<T>, W: Wake> Acceptor<'a, B, 
         if self.source.failures() == u64::MAX || self.source.arrivals() == u64::MAX {
             return Some(SourceEnd::Failed);
         }
+        // The users have an owner for each connection that came, so never as many as can be counted.
+        let Ok(limits) = self.limits.share() else {
+            return None;
+        };
         match self.source.next() {
             Arrival::Came(transport) => {
                 self.came += 1;
-                let arrived = Arrived::new(transport, self.limits);
+                let arrived = Arrived::new(transport, limits);
                 deliver(rt, &mut self.sender, arrived);
                 self.mailboxes.invite(worker);
                 None
             }
-            Arrival::Idle => None,
-            Arrival::End => Some(SourceEnd::Ended),
-            Arrival::Failed => Some(SourceEnd::Failed),
+            Arrival::Idle => {
+                drop(limits);
+                None
+            }
+            Arrival::End => {
+                drop(limits);
+                Some(SourceEnd::Ended)
+            }
+            Arrival::Failed => {
+                drop(limits);
+                Some(SourceEnd::Failed)
+            }
         }
     }
 

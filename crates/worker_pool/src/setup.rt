@@ -13,6 +13,6 @@ pub struct PoolSetup<T: Transport, Q: Poller<T>> {
     pub unused_pollers: Vec<UnusedPoller<T, Q>>,
     /// What wakes each worker.
     pub alarms: Vec<Q::Alarm>,
-    /// What the client of a connection is granted at most, whatever it asks for.
+    /// What the client of a connection is granted at most, whatever it asks for, and which clients are served.
     pub limits: ClientLimits,
 }

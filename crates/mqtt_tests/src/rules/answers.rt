@@ -87,7 +87,7 @@ fn receive_maximum(
     digits: &str,
     max_inflight: MaxInflight,
 ) -> Result<Option<u16>, Fault> {
-    match asked_for(alloc, digits, ClientLimits::inflight_alone(max_inflight)) {
+    match asked_for(alloc, digits, &ClientLimits::inflight_alone(max_inflight)) {
         Ok(Some((terms, _))) => Ok(Some(terms.receive_maximum)),
         Ok(None) => Ok(None),
         Err(fault) => Err(fault),
@@ -168,7 +168,7 @@ fn terms_of_clients(rt: HostRuntime) -> Result<(), Fail> {
     ];
     let limits = ClientLimits::inflight_alone(MaxInflight::most());
     for (digits, wanted) in &rows {
-        let asked = asked_for(rt.alloc(), digits, limits)?;
+        let asked = asked_for(rt.alloc(), digits, &limits)?;
         assert_same_at(&rt, &asked, &Some((*wanted, AS_ASKED)), digits);
     }
     assert!(rt; plain.is_given_expiry(1) && !plain.is_given_expiry(0));
@@ -218,7 +218,7 @@ fn within_limits(rt: HostRuntime) -> Result<(), Fail> {
             session_expiry_interval: overrides.0,
             keep_alive: overrides.1,
         };
-        let found = asked_for(rt.alloc(), digits, limits)?;
+        let found = asked_for(rt.alloc(), digits, &limits)?;
         assert_same_at(&rt, &found, &Some((wanted, overrides)), digits);
     }
     Ok(())

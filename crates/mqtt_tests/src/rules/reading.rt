@@ -1,7 +1,7 @@
 //! Packets from hex digits, and what the rules answer to them.
 use conn_rules::{
-    ClientLimits, FirstAnswer, Overrides, PublishAnswer, Terms, answer_to_first, answer_to_publish,
-    overrides_of, subscribe_refusal, terms_of, unsubscribe_refusal,
+    ClientLimits, FirstAnswer, MaxInflight, Overrides, PublishAnswer, Terms, answer_to_first,
+    answer_to_publish, overrides_of, subscribe_refusal, terms_of, unsubscribe_refusal,
 };
 use mqtt_fields::Fault;
 use mqtt_packet::{Packet, ReasonCode};
@@ -24,10 +24,10 @@ pub fn packet(alloc: Global, digits: &str) -> Result<Option<Packet>, Fault> {
 }
 
 /// What a client asked for under these limits, and what of it is not as it asked, where its packet is a CONNECT.
-fn terms_in(packet: &Packet, limits: ClientLimits) -> Option<(Terms, Overrides)> {
+fn terms_in(packet: &Packet, limits: &ClientLimits) -> Option<(Terms, Overrides)> {
     match packet {
         Packet::Connect(connect) => {
-            Some((terms_of(&limits, connect), overrides_of(&limits, connect)))
+            Some((terms_of(limits, connect), overrides_of(limits, connect)))
         }
         _ => None,
     }
@@ -37,7 +37,7 @@ fn terms_in(packet: &Packet, limits: ClientLimits) -> Option<(Terms, Overrides)>
 pub fn asked_for(
     alloc: Global,
     digits: &str,
-    limits: ClientLimits,
+    limits: &ClientLimits,
 ) -> Result<Option<(Terms, Overrides)>, Fault> {
     match packet(alloc, digits) {
         Ok(Some(packet)) => {
@@ -50,11 +50,12 @@ pub fn asked_for(
     }
 }
 
-/// The answer to the first packet of these bytes; `None` where there is none.
+/// The answer to the first packet of these bytes, where all clients are served; `None` where there is none.
 pub fn answer_to_bytes(alloc: Global, bytes: &[u8]) -> Result<Option<FirstAnswer>, Fault> {
     match read(alloc, bytes) {
         Ok(Some(packet)) => {
-            let first = answer_to_first(&packet);
+            let limits = ClientLimits::inflight_alone(MaxInflight::most());
+            let first = answer_to_first(&limits, &packet);
             drop(packet);
             Ok(Some(first))
         }

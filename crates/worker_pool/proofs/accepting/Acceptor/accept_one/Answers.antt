@@ -1,5 +1,6 @@
 -- One came, and was sent.
 use Rattle.std.proofs.Common.{◌++◌, [], ◌∷◌, subst, ap, ◌∙◌}
+use Rattle.conn_rules.specs.declared.limits.ClientLimits.{ClientLimits}
 use Rattle.worker_connections.specs.Arrivals.{ArrivedState}
 use Rattle.worker_pool.specs.Accepting.{AcceptorState, HasAccepted}
 use Rattle.worker_pool.proofs.Accepted.{one}
@@ -8,7 +9,8 @@ use Rattle.worker_pool.proofs.accepting.Acceptor.accept_one.Goals as goal
 pub returns-in-Came-clause-accepted : goal.returns-in-Came-clause-accepted
 returns-in-Came-clause-accepted g c =
     let inside = c.self.inside in
-    let sent = c.deliver.ensures ∙ ap (λ (arrived : ArrivedState g.row.T.Denot). record inside.sender { sent = inside.sender.sent ++ arrived ∷ [] }) c.new-arrived.ensures in
+    let sent = c.deliver.ensures ∙ ap (λ (arrived : ArrivedState g.row.T.Denot). record inside.sender { sent = inside.sender.sent ++ arrived ∷ [] })
+    (c.new-arrived.ensures ∙ ap (λ (limits : ClientLimits). record { transport = c.in-Came.transport; limits = limits }) c.in-Ok.ensures) in
     subst
     (λ (old : AcceptorState g.row.T.Denot g.row.S.Denot).
     HasAccepted g.S.Source.tally g.S.Source.arrived old (record { source = c.next.new.self; sender = c.deliver.new.sender; limits = inside.limits; end = inside.end }))
