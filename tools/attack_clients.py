@@ -1,6 +1,8 @@
 """The clients of `tools/attack` that are no attackers: a publisher with its member, and one that comes after the attack; and the connection that all clients have."""
+import base64
 import collections
 import dataclasses
+import hashlib
 import select
 import socket
 import struct
@@ -9,6 +11,8 @@ import time
 from frames import connect, cut, job_of, puback, publish, subscribe
 
 SHARE, TOPIC = "$share/g/job", "job"
+USER, PASSWORD = "honest", "open sesame"  # who is asked for none is not looked at for it
+ITERATIONS = 1_000  # of the hash of that password, as `hash-password` has it by default
 RATE = 200  # jobs a second
 MEMBER_MAXIMUM = 20  # the Receive Maximum of a member
 PATIENCE = 3  # seconds after the attack, within which an acknowledged job has to arrive
@@ -90,13 +94,21 @@ class Client:
 
     def join(self, name, receive_maximum=0, share=None):
         """Sends a CONNECT, and a SUBSCRIBE where a share is given, and waits for the answers."""
-        self.send(connect(name, receive_maximum=receive_maximum) + (subscribe(share) if share else b""))
+        hello = connect(name, receive_maximum=receive_maximum, user=USER, password=PASSWORD)
+        self.send(hello + (subscribe(share) if share else b""))
         connack = self.wait_for(0x20)
         if connack[1]:
             raise Refused(f"CONNACK {connack[1]:02X}")
         self.receive_maximum = receive_maximum_of(connack)
         if share and (code := self.wait_for(0x90)[-1]) != 1:
             raise Refused(f"SUBACK {code:02X}")
+
+
+def users_file():
+    """Returns the text of a file of users that has this one, for both brokers."""
+    salt = b"salt of all "
+    hashed = hashlib.pbkdf2_hmac("sha512", PASSWORD.encode(), salt, ITERATIONS, 64)
+    return f"{USER}:$7${ITERATIONS}${base64.b64encode(salt).decode()}${base64.b64encode(hashed).decode()}\n"
 
 
 def newcomer(port):

@@ -7,7 +7,7 @@ import selectors
 import time
 from typing import Callable
 
-from attack_clients import MEMBER_MAXIMUM, SHARE, Client, Refused, Unexpected
+from attack_clients import MEMBER_MAXIMUM, SHARE, USER, Client, Refused, Unexpected
 from frames import PINGREQ, connect, disconnect, length, packet, publish, subscribe, text
 
 NOBODY = "nobody"  # a topic of no group
@@ -233,6 +233,19 @@ def parked(work):
     work.again(once)
 
 
+def wrong_passwords(work):
+    wrong = connect(work.name, user=USER, password="open season")
+
+    def once():
+        with Client(work.port, ANSWER_PATIENCE) as client:
+            client.send(wrong)
+            if not client.wait_for(0x20)[1]:
+                raise Unexpected("a wrong password was accepted")
+        work.did()
+
+    work.again(once)
+
+
 def take_and_die(work):
     def once():
         with Client(work.port, ANSWER_PATIENCE) as member:
@@ -248,13 +261,14 @@ def take_and_die(work):
 
 @dataclasses.dataclass(frozen=True)
 class Attack:
-    """How many processes it has, what runs in each, what they count, by the second or in all, and how much of it there is before the first job."""
+    """How many processes it has, what runs in each, what they count, by the second or in all, how much of it there is before the first job, and whether brokers are given users for it."""
 
     processes: int = 0
     run: Callable = None
     counted: str = ""
     by_second: bool = True
     before: int = 1
+    with_users: bool = False
 
 
 ATTACKS = {
@@ -272,5 +286,6 @@ ATTACKS = {
     "other-half-storm": Attack(4, other_half_storm, "connections", before=4 * STORM_CONNECTIONS),
     "parked": Attack(4, parked, "sessions", before=512),
     "payloads": Attack(4, payloads, "packets"),
+    "wrong-passwords": Attack(4, wrong_passwords, "connections", with_users=True),
     "take-and-die": Attack(1, take_and_die, "jobs taken", before=0),
 }

@@ -31,15 +31,13 @@ def packet(first, body):
     return bytes([first]) + length(len(body)) + body
 
 
-def connect(name, clean=True, expiry=0, receive_maximum=0, keep_alive=0, maximum_packet_size=0):
+def connect(name, clean=True, expiry=0, receive_maximum=0, keep_alive=0, maximum_packet_size=0, user=None, password=None):
     properties = b"\x11" + expiry.to_bytes(4, "big") if expiry else b""
     properties += b"\x21" + receive_maximum.to_bytes(2, "big") if receive_maximum else b""
     properties += b"\x27" + maximum_packet_size.to_bytes(4, "big") if maximum_packet_size else b""
-    flags = b"\x02" if clean else b"\x00"
-    return packet(
-        0x10,
-        text("MQTT") + b"\x05" + flags + keep_alive.to_bytes(2, "big") + length(len(properties)) + properties + text(name),
-    )
+    flags = bytes([0x02 * clean + 0x80 * (user is not None) + 0x40 * (password is not None)])
+    payload = b"".join(text(part) for part in (name, user, password) if part is not None)
+    return packet(0x10, text("MQTT") + b"\x05" + flags + keep_alive.to_bytes(2, "big") + length(len(properties)) + properties + payload)
 
 
 def subscribe(share, identifier=1):
