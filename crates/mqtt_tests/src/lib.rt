@@ -10,6 +10,8 @@ mod topics;
 #[cfg(test)]
 mod user_files;
 #[cfg(test)]
+mod user_rights;
+#[cfg(test)]
 mod wire;
 
 #[cfg(test)]

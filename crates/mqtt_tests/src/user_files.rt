@@ -174,7 +174,9 @@ fn names(rt: HostRuntime) -> Result<(), Fail> {
     assert_same(&rt, &is_user_name(&longest), &false);
     for (name, wanted) in [
         ("a", true),
-        (" ", true),
+        (" ", false),
+        (" a", false),
+        ("a ", true),
         ("a#", true),
         ("\u{20AC}", true),
         ("", false),

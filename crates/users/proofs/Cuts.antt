@@ -4,7 +4,8 @@ use Rattle.std.specs.List.{position_or_len, position}
 use Rattle.std.specs.Option.{option_map}
 use Rattle.std.proofs.lemmas.List.{take_all, take_rest}
 use Rattle.std.proofs.lemmas.Bool.{lt-ltb, le-ltb, ltb-false, cases_lt, cases_Bool}
-use Rattle.users.specs.Lines.{cut, lines_of, onto_first}
+use Rattle.users.specs.Cuts.{cut}
+use Rattle.users.specs.Lines.{lines_of, onto_first}
 
 -- what stands in front of a place and behind it
 abbrev pub parts_at : List ℕ → ℕ → List ℕ × List ℕ

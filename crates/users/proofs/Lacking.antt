@@ -7,7 +7,8 @@ use Rattle.std.specs.Str.Lines.{strip_carriage_return}
 use Rattle.base64.specs.Rfc4648.{encode_symbols}
 use Rattle.base64.specs.Engines.{standard}
 use Rattle.base64.specs.GeneralPurpose.{engine_symbols}
-use Rattle.users.specs.Lines.{base64_of, cut, lines_of, onto_first}
+use Rattle.users.specs.Cuts.{cut}
+use Rattle.users.specs.Lines.{base64_of, lines_of, onto_first}
 
 -- none of the bytes is this one
 abbrev pub lacks : ℕ → List ℕ → Bool

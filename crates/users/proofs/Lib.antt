@@ -1,6 +1,8 @@
 pub mod Bytes
 pub mod Chain
 pub mod Seen
+pub mod Allowed
+pub mod Granted
 pub mod Cuts
 pub mod Files
 pub mod Made

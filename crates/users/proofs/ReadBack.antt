@@ -11,9 +11,12 @@ use Rattle.std.specs.Result.{result_ok}
 use Rattle.base64.proofs.EngineFacts.{decode_of-encode_of}
 use Rattle.base64.specs.Engines.{standard}
 use Rattle.base64.specs.GeneralPurpose.{IsBytes, decoded_of}
+use Rattle.users.specs.Cuts.{begins_blank, is_blank}
+use Rattle.users.specs.Granting.{right_of, with_grant}
 use Rattle.users.specs.Hashing.{pbkdf2_sha512}
 use Rattle.users.specs.Laws.{MayBeMade, one_user}
-use Rattle.users.specs.Lines.{after_lines, base64_of, begins_comment, fields_of, hash_of, if_size, is_name_byte, is_passed_over, is_user_name, iterations_of, of_fields, of_parts, password_of, salt_of, user_line, user_of, users_of, with_digit, with_digits, with_line, with_user}
+use Rattle.users.specs.Lines.{after_lines, base64_of, begins_comment, fields_of, hash_of, if_size, is_name_byte, is_passed_over, is_user_name, iterations_of, of_fields, of_parts, password_of, salt_of, user_line, user_of, users_of, with_digit, with_digits, with_entry, with_line, with_user}
+use Rattle.users.specs.Rights.{with_all_rights}
 use Rattle.users.specs.Table.{StoredPassword, UserTable, admits, is_password_of}
 use Rattle.users.proofs.Lacking.{lacks, lacks-append, lacks-base64, both_true, first_true, second_true, not_true, cut-append, one_line, no_return}
 use Rattle.users.proofs.Made.{pieces, user_line_is}
@@ -114,6 +117,7 @@ no_control c low byte h =
 record IsName (name : List ℕ) : Type 0 where
   some : not (eqb (length name) 0) ≡ true
   no_comment : not (begins_comment name) ≡ true
+  no_blank : not (begins_blank name) ≡ true
   bytes : list_all is_name_byte name ≡ true
 
 name_facts : (name : List ℕ) → is_user_name name ≡ true → IsName name
@@ -122,17 +126,24 @@ name_facts name h =
     let some = not (eqb (length name) 0) in
     let short = leb (length name) 128 in
     let plain = not (begins_comment name) in
+    let inked = not (begins_blank name) in
     let bytes = list_all is_name_byte name in
-    let three = first_true (some && short && plain) bytes h in
+    let four = first_true (some && short && plain && inked) bytes h in
+    let three = first_true (some && short && plain) inked four in
     record {
       some = first_true some short (first_true (some && short) plain three);
       no_comment = second_true (some && short) plain three;
-      bytes = second_true (some && short && plain) bytes h;
+      no_blank = second_true (some && short && plain) inked four;
+      bytes = second_true (some && short && plain && inked) bytes h;
     }
 
 stays : (name rest : List ℕ) → IsName name → is_passed_over (name ++ rest) ≡ false
 stays [] rest is = absurd (true≢false (sym is.some))
 stays (byte ∷ bytes) rest is = not_true (eqb byte 35) is.no_comment
+
+stands_first : (name rest : List ℕ) → IsName name → begins_blank (name ++ rest) ≡ false
+stands_first [] rest is = absurd (true≢false (sym is.some))
+stands_first (byte ∷ bytes) rest is = not_true (is_blank byte) is.no_blank
 
 -- ---- the line
 
@@ -153,17 +164,18 @@ password_read : (text : List ℕ) (fields : List ℕ × List ℕ × List ℕ) (s
 unfolding password_of
 password_read text fields stored e f = ap (λ found. option_and_then of_fields found) e ∙ f
 
-user_read : (name rest : List ℕ) (stored : StoredPassword) → is_user_name name ≡ true → password_of rest ≡ Some stored → user_of (name ++ 58 ∷ rest) ≡ Some (name, stored)
+user_read : (name rest : List ℕ) (stored : StoredPassword) → is_user_name name ≡ true → password_of rest ≡ Some stored → user_of (name ++ 58 ∷ rest) ≡ Some (name, with_all_rights stored)
 unfolding user_of
 user_read name rest stored is e =
     ap (λ found. option_and_then of_parts found) (cut-append 58 name rest refl (names_lack 58 no_colon name (name_facts name is).bytes))
-    ∙ ap (λ (b : Bool). cond b (option_map (λ kept. (name, kept)) (password_of rest)) None) is
-    ∙ ap (option_map (λ kept. (name, kept))) e
+    ∙ ap (λ (b : Bool). cond b (option_map (λ kept. (name, with_all_rights kept)) (password_of rest)) None) is
+    ∙ ap (option_map (λ kept. (name, with_all_rights kept))) e
 
-line_read : (name rest : List ℕ) (stored : StoredPassword) → is_user_name name ≡ true → password_of rest ≡ Some stored → with_line [] (name ++ 58 ∷ rest) ≡ Some ((name, stored) ∷ [])
+line_read : (name rest : List ℕ) (stored : StoredPassword) → is_user_name name ≡ true → password_of rest ≡ Some stored → with_line [] (name ++ 58 ∷ rest) ≡ Some ((name, with_all_rights stored) ∷ [])
 unfolding with_line
 line_read name rest stored is e =
-    ap (λ (b : Bool). cond b (Some []) (with_user [] (user_of (name ++ 58 ∷ rest)))) (stays name (58 ∷ rest) (name_facts name is))
+    ap (λ (b : Bool). cond b (Some []) (with_entry [] (name ++ 58 ∷ rest))) (stays name (58 ∷ rest) (name_facts name is))
+    ∙ ap (λ (b : Bool). cond b (with_grant [] (right_of (name ++ 58 ∷ rest))) (with_user [] (user_of (name ++ 58 ∷ rest)))) (stands_first name (58 ∷ rest) (name_facts name is))
     ∙ ap (with_user []) (user_read name rest stored is e)
 
 file_read : (line : List ℕ) (table : UserTable) → lacks 10 line ≡ true → lacks 13 line ≡ true → with_line [] line ≡ Some table → users_of (line ++ 10 ∷ []) ≡ Ok table
@@ -197,11 +209,11 @@ read_back name password salt iterations may =
     let ends = line_lacks 10 name digits (base64_of salt) (base64_of hash) refl refl (names_lack 10 (no_control 10 (lit< tt)) name bytes) numbers.ends (lacks-base64 10 salt refl refl refl) (lacks-base64 10 hash refl refl refl) in
     let returns = line_lacks 13 name digits (base64_of salt) (base64_of hash) refl refl (names_lack 13 (no_control 13 (lit< tt)) name bytes) numbers.returns (lacks-base64 13 salt refl refl refl) (lacks-base64 13 hash refl refl refl) in
     ap (λ (l : List ℕ). users_of (l ++ 10 ∷ [])) (user_line_is name password salt iterations)
-    ∙ file_read line ((name, kept) ∷ []) ends returns (line_read name rest kept may.name_is password_is)
+    ∙ file_read line ((name, with_all_rights kept) ∷ []) ends returns (line_read name rest kept may.name_is password_is)
 
 pub admitted_back : (name password salt other : List ℕ) (iterations : ℕ)
     → admits (one_user name password salt iterations) name other ≡ bytes_eq (pbkdf2_sha512 other salt iterations) (pbkdf2_sha512 password salt iterations)
 unfolding admits
 admitted_back name password salt other iterations =
     let kept : StoredPassword = record { iterations = iterations; salt = salt; hash = pbkdf2_sha512 password salt iterations } in
-    ap (λ (b : Bool). is_password_of (cond b (Some kept) None) other) ((bytes_eq-Decides name name).1 refl)
+    ap (λ (b : Bool). is_password_of (cond b (Some (with_all_rights kept)) None) other) ((bytes_eq-Decides name name).1 refl)

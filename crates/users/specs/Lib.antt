@@ -1,7 +1,11 @@
 pub mod Hashing
 pub mod Keyed
 pub mod Table
+pub mod Rights
 pub mod Layout
+pub mod Places
+pub mod Cuts
+pub mod Granting
 pub mod Lines
 pub mod Refusals
 pub mod Laws

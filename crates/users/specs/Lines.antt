@@ -1,5 +1,5 @@
--- The lines of a users file, `name:$7$iterations$salt$hash`, and the table that they spell (profile).
-use Rattle.std.specs.Prelude.{ℕ, ◌+◌, ◌-◌, ◌*◌, ◌==◌, ◌&&◌, not, nat_eq, nat_lt, nat_le, Bool, true, false, if◌then◌else◌, List, [], ◌∷◌, ◌++◌, length, take, drop, position, codes, Option, Some, None, option_and_then, is_some, Result, Ok, Err}
+-- The lines of a users file, `name:$7$iterations$salt$hash` and what the user may do, and the table that they spell (profile).
+use Rattle.std.specs.Prelude.{ℕ, ◌+◌, ◌-◌, ◌*◌, ◌==◌, ◌&&◌, not, nat_eq, nat_lt, nat_le, Bool, true, false, if◌then◌else◌, List, [], ◌∷◌, ◌++◌, length, drop, codes, Option, Some, None, is_some, Result, Ok, Err}
 use Rattle.std.specs.Char.{is_ascii_digit}
 use Rattle.std.specs.Fmt.{decimal}
 use Rattle.std.specs.List.{list_all, starts_with}
@@ -7,16 +7,11 @@ use Rattle.std.specs.Option.{option_map}
 use Rattle.std.specs.Str.Lines.{strip_carriage_return}
 use Rattle.base64.specs.Engines.{standard}
 use Rattle.base64.specs.GeneralPurpose.{decoded_of, encode_of}
+use Rattle.users.specs.Cuts.{◌>>=◌, cut, begins_blank}
+use Rattle.users.specs.Granting.{right_of, with_grant}
 use Rattle.users.specs.Hashing.{pbkdf2_sha512}
-use Rattle.users.specs.Table.{StoredPassword, UserTable, stored_of}
-
-infixl 10 ◌>>=◌
-abbrev pub ◌>>=◌ : {A B : Type 0} → Option A → (A → Option B) → Option B
-found >>= next = option_and_then next found
-
--- what stands in front of the first separator, and what behind it
-unfoldable pub cut : ℕ → List ℕ → Option (List ℕ × List ℕ)
-cut separator text = option_map (λ at. (take at text, drop (at + 1) text)) (position (λ byte. byte == separator) text)
+use Rattle.users.specs.Rights.{with_all_rights}
+use Rattle.users.specs.Table.{StoredPassword, StoredUser, UserTable, stored_of}
 
 -- ---- the parts of a line
 
@@ -28,9 +23,9 @@ abbrev pub begins_comment : List ℕ → Bool
 begins_comment [] = false
 begins_comment (byte ∷ bytes) = byte == 35
 
--- a name has 1 to 128 bytes and does not begin with `#`
+-- a name has 1 to 128 bytes and does not begin with `#` or a space
 unfoldable pub is_user_name : List ℕ → Bool
-is_user_name name = not (length name == 0) && nat_le (length name) 128 && not (begins_comment name) && list_all is_name_byte name
+is_user_name name = not (length name == 0) && nat_le (length name) 128 && not (begins_comment name) && not (begins_blank name) && list_all is_name_byte name
 
 -- the most iterations
 abbrev pub most_iterations : ℕ
@@ -95,11 +90,11 @@ password_of text = do
   fields ← fields_of text
   of_fields fields
 
-abbrev pub of_parts : List ℕ × List ℕ → Option (List ℕ × StoredPassword)
-of_parts parts = if is_user_name parts.0 then option_map (λ stored. (parts.0, stored)) (password_of parts.1) else None
+abbrev pub of_parts : List ℕ × List ℕ → Option (List ℕ × StoredUser)
+of_parts parts = if is_user_name parts.0 then option_map (λ password. (parts.0, with_all_rights password)) (password_of parts.1) else None
 
--- the user of a line: its name and what is kept of its password
-unfoldable pub user_of : List ℕ → Option (List ℕ × StoredPassword)
+-- the user of a line: its name and what is kept of it
+unfoldable pub user_of : List ℕ → Option (List ℕ × StoredUser)
 user_of line = do
   parts ← cut 58 line
   of_parts parts
@@ -110,13 +105,17 @@ is_passed_over [] = true
 is_passed_over (byte ∷ bytes) = byte == 35
 
 -- a table and one user more, where it has none of that name
-abbrev pub with_user : UserTable → Option (List ℕ × StoredPassword) → Option UserTable
+abbrev pub with_user : UserTable → Option (List ℕ × StoredUser) → Option UserTable
 with_user table None = None
 with_user table (Some user) = if is_some (stored_of table user.0) then None else Some (table ++ user ∷ [])
 
+-- a table after a line that is not passed over: one that begins with a space or a tab gives the last user a right, another one adds a user
+abbrev pub with_entry : UserTable → List ℕ → Option UserTable
+with_entry table line = if begins_blank line then with_grant table (right_of line) else with_user table (user_of line)
+
 -- a table after one line more
 unfoldable pub with_line : UserTable → List ℕ → Option UserTable
-with_line table line = if is_passed_over line then Some table else with_user table (user_of line)
+with_line table line = if is_passed_over line then Some table else with_entry table line
 
 -- ---- files
 

@@ -1,7 +1,8 @@
 //! Where a text is cut.
 ghost use Rattle.std.specs.Prelude.{◌≡◌, ◌==◌, ◌∷◌, ◌<◌, length, position, IfSome, MatchOption, None, Some};
 ghost use Rattle.std.specs.Str.Lines.{strip_carriage_return};
-ghost use Rattle.users.specs.Lines.{cut, lines_of};
+ghost use Rattle.users.specs.Cuts.{begins_blank, cut, without_blanks};
+ghost use Rattle.users.specs.Lines.{lines_of};
 
 /// Where the first separator stands.
 fn place_of(text: &[u8], separator: u8) -> Option<usize>
@@ -42,4 +43,22 @@ pub(crate) fn without_return(line: &[u8]) -> &[u8]
         [front @ .., b'\r'] => front,
         _ => line,
     }
+}
+
+/// Whether a text begins with a space or a tab.
+pub(crate) fn begins_blank(text: &[u8]) -> bool
+    ensures { result ≡ begins_blank text.now }
+{
+    matches!(text, [b' ' | b'\t', ..])
+}
+
+/// What follows the spaces and tabs in front.
+pub(crate) fn without_blanks(text: &[u8]) -> &[u8]
+    ensures { result.now ≡ without_blanks text.now }
+{
+    let mut rest = text;
+    while let [b' ' | b'\t', others @ ..] = rest {
+        rest = others;
+    }
+    rest
 }

@@ -1,15 +1,17 @@
 //! The users that the lines of a file spell.
 ghost use Rattle.std.specs.Prelude.{◌≡◌, IfErr, IfOk, MatchBool, None, Ok, Some};
 ghost use Rattle.std.specs.Option.{option_map};
+ghost use Rattle.users.specs.Granting.{onto_last, right_of, with_grant};
 ghost use Rattle.users.specs.Layout.{seen};
 ghost use Rattle.users.specs.Lines.{is_passed_over, user_of, users_of, with_line, with_user};
 ghost use Rattle.users.specs.Refusals.{IsRefusal};
 
-use crate::cutting::{cut, split_line, without_return};
+use crate::cutting::{begins_blank, cut, split_line, without_return};
 use crate::error::UsersError;
 use crate::fields::password;
 use crate::name::is_user_name;
-use crate::password::StoredPassword;
+use crate::right::{Right, given_right};
+use crate::user::StoredUser;
 use indexmap::IndexMap;
 use std::alloc::{AllocError, Global};
 
@@ -18,10 +20,7 @@ use std::alloc::{AllocError, Global};
 /// # Errors
 ///
 /// [`UsersError::Line`] for the first line at fault, and [`UsersError::Memory`].
-pub(crate) fn read(
-    alloc: Global,
-    text: &[u8],
-) -> Result<IndexMap<Vec<u8>, StoredPassword>, UsersError>
+pub(crate) fn read(alloc: Global, text: &[u8]) -> Result<IndexMap<Vec<u8>, StoredUser>, UsersError>
     ensures ok { IfOk result (λ users. users_of text.now ≡ Ok (seen users.entries)) }
     ensures err { IfErr result (IsRefusal (users_of text.now)) }
 {
@@ -39,11 +38,11 @@ pub(crate) fn read(
     Ok(users)
 }
 
-/// Adds the user of a line, if it is of one; `false` where the line is at fault.
+/// Adds the user of a line, if it is of one, or gives the last user the right of a line; `false` where the line is at fault.
 #[tactic(auto, unfolding(crate::specs::Lines::with_line))]
 fn add_line(
     alloc: Global,
-    users: &mut IndexMap<Vec<u8>, StoredPassword>,
+    users: &mut IndexMap<Vec<u8>, StoredUser>,
     line: &[u8],
 ) -> Result<bool, AllocError>
     ensures { IfOk result (λ added. MatchBool added
@@ -52,6 +51,9 @@ fn add_line(
 {
     if is_passed_over(line) {
         return Ok(true);
+    }
+    if begins_blank(line) {
+        return add_right(alloc, users, line);
     }
     match user(alloc, line)? {
         Some((name, stored)) => add(alloc, users, name, stored),
@@ -69,9 +71,9 @@ fn is_passed_over(line: &[u8]) -> bool
     }
 }
 
-/// The user of a line: its name and what is kept of its password.
+/// The user of a line: its name and what is kept of it.
 #[tactic(auto, unfolding(crate::specs::Lines::user_of))]
-fn user(alloc: Global, line: &[u8]) -> Result<Option<(&[u8], StoredPassword)>, AllocError>
+fn user(alloc: Global, line: &[u8]) -> Result<Option<(&[u8], StoredUser)>, AllocError>
     ensures { IfOk result (λ found. option_map (λ user. (user.0.now, user.1)) found ≡ user_of line.now) }
 {
     let Some((name, text)) = cut(line, b':') else {
@@ -81,7 +83,7 @@ fn user(alloc: Global, line: &[u8]) -> Result<Option<(&[u8], StoredPassword)>, A
         return Ok(None);
     }
     match password(alloc, text)? {
-        Some(stored) => Ok(Some((name, stored))),
+        Some(password) => Ok(Some((name, StoredUser::new(alloc, password)))),
         None => Ok(None),
     }
 }
@@ -89,9 +91,9 @@ fn user(alloc: Global, line: &[u8]) -> Result<Option<(&[u8], StoredPassword)>, A
 /// Adds a user; `false` where there is one of that name.
 fn add(
     alloc: Global,
-    users: &mut IndexMap<Vec<u8>, StoredPassword>,
+    users: &mut IndexMap<Vec<u8>, StoredUser>,
     name: &[u8],
-    stored: StoredPassword,
+    stored: StoredUser,
 ) -> Result<bool, AllocError>
     ensures { IfOk result (λ added. MatchBool added
         (with_user (seen users.old.entries) (Some (name.now, stored)) ≡ Some (seen users.new.entries))
@@ -102,4 +104,35 @@ fn add(
     }
     users.insert(Vec::from_slice(alloc, name)?, stored)?;
     Ok(true)
+}
+
+/// Gives the last user the right of a line; `false` where the line gives none, or there is no user.
+fn add_right(
+    alloc: Global,
+    users: &mut IndexMap<Vec<u8>, StoredUser>,
+    line: &[u8],
+) -> Result<bool, AllocError>
+    ensures { IfOk result (λ added. MatchBool added
+        (with_grant (seen users.old.entries) (right_of line.now) ≡ Some (seen users.new.entries))
+        (with_grant (seen users.old.entries) (right_of line.now) ≡ None)) }
+{
+    match given_right(alloc, line)? {
+        Some(right) => grant(users, right),
+        None => Ok(false),
+    }
+}
+
+/// Gives the last user one right more; `false` where there is no user.
+fn grant(users: &mut IndexMap<Vec<u8>, StoredUser>, right: Right) -> Result<bool, AllocError>
+    ensures { IfOk result (λ added. MatchBool added
+        (onto_last right (seen users.old.entries) ≡ Some (seen users.new.entries))
+        (onto_last right (seen users.old.entries) ≡ None)) }
+{
+    match users.last_mut() {
+        Some(user) => {
+            user.rights.add(right)?;
+            Ok(true)
+        }
+        None => Ok(false),
+    }
 }

@@ -5,18 +5,18 @@ ghost use Rattle.users.specs.Refusals.{IsRefusal};
 
 use crate::error::UsersError;
 use crate::file::read;
-use crate::password::StoredPassword;
 use crate::shared::SharedUsers;
+use crate::user::StoredUser;
 use indexmap::IndexMap;
 use std::alloc::{AllocError, Global};
 use std::marker::Model;
 
-/// A table of users, each once: a name of 1 to 128 bytes and what is kept of its password.
+/// A table of users, each once: a name of 1 to 128 bytes, what is kept of its password, and what it may do.
 ///
 /// Contracts see it as a `UserTable`, in the order of the file.
 #[derive(Drop)]
 pub struct Users {
-    users: IndexMap<Vec<u8>, StoredPassword>,
+    users: IndexMap<Vec<u8>, StoredUser>,
 }
 
 impl Model for Users {
@@ -33,6 +33,10 @@ impl Users {
     /// user of that name. Lines end at a line feed, and a carriage return before it is no part of them; empty lines and lines that begin with `#` say
     /// nothing. The name is one as [`is_user_name`](crate::is_user_name) says that no earlier line has, the iterations are 1 to 1,000,000 in decimal,
     /// and salt and hash stand in base64 with padding (RFC 4648, section 4), the salt of 1 to 64 bytes and the hash of 64.
+    ///
+    /// A line that begins with a space or a tab says what the last user before it may do: after the spaces and tabs in front stands `publish`, a space
+    /// and a topic filter, or `work`, a space and a shared subscription `$share/NAME/FILTER`, or `client`, a space and a client identifier of 1 to 128
+    /// bytes; each of these is well-formed UTF-8 without U+0000. A user without such lines may do everything.
     ///
     /// # Errors
     ///
