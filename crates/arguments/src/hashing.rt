@@ -36,7 +36,7 @@ fn wrong_name(alloc: Global, text: &str) -> Result<Error, AllocError>
     ensures { IfOk result (λ error. kind_of error ≡ kinds.ValueValidation) }
 {
     let refusal = format!(in alloc;
-        "invalid value '{text}' for '<NAME>': a user's name has 1 to 128 bytes, no colon, no control character, and no # in front"
+        "invalid value '{text}' for '<NAME>': a user's name has 1 to 128 bytes, no colon, no control character, and no # or space in front"
     )?;
     wrong(alloc, refusal.as_str())
 }

@@ -218,7 +218,7 @@ pub(crate) fn name<'a>(alloc: Global) -> Arg<'a>
         .value_name("NAME")
         .required(true)
         .help(
-            "The User Name: 1 to 128 bytes, without a colon or a control character, and with no # in front",
+            "The User Name: 1 to 128 bytes, without a colon or a control character, and with no # or space in front",
         )
 }
 

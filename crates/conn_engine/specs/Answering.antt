@@ -10,14 +10,14 @@ use Rattle.conn_supply.specs.declared.reply.Reply.{Reply}
 use Rattle.conn_supply.specs.SupplyCalls.{SupplyCall}
 use Rattle.conn_supply.specs.Memberships.{with_membership, with_subscription}
 use Rattle.conn_supply.specs.Replies.{going_on, closed, closing_with}
-use Rattle.conn_supply.specs.Publishing.{Publishes, IsCutShort}
+use Rattle.conn_supply.specs.Publishing.{FailsToPublish, Publishes}
 use Rattle.conn_supply.specs.Acknowledging.{Acknowledges}
 use Rattle.conn_supply.specs.Subscribing.{Subscribes, Unsubscribes, AnswersSome}
 use Rattle.conn_engine.specs.declared.phase.ConnectedClient.{ConnectedClient}
 
 -- the same connection, with this session
 abbrev pub with_session : {P : Type 0} → ConnectedClient P → Session Held P → ConnectedClient P
-with_session connected session = record { session = session; terms = connected.terms; heard = connected.heard }
+with_session connected session = record { session = session; terms = connected.terms; rights = connected.rights; heard = connected.heard }
 
 -- its session has this membership, or this expiry in seconds
 abbrev pub joining : {P : Type 0} → ConnectedClient P → Membership P → ConnectedClient P
@@ -48,13 +48,13 @@ Disconnects connected (Some seconds) connected' reply = DisconnectsIf (is_given_
 module _ {S P : Type 0} (call : S → SupplyCall P → S → Type 0) (slot_of : P → ℕ) where
   -- a packet of the connection with this number that came at this moment. What a client has no business to send, a second CONNECT among it, is a Protocol Error (4.13)
   abbrev pub Answers : S → ℕ → ConnectedClient P → ℕ → Packet → ConnectedClient P → Reply → S → Type 0
-  Answers old number connected now (packets.Publish publish) connected' reply new = Publishes call old number now publish reply new × (connected' ≡ connected)
+  Answers old number connected now (packets.Publish publish) connected' reply new = Publishes call connected.rights old number now publish reply new × (connected' ≡ connected)
   Answers old number connected now (packets.Puback puback) connected' reply new =
       (session : Session Held P) × Acknowledges call old connected.session puback.packet_identifier puback.reason_code session new
       × (connected' ≡ with_session connected session) × (reply ≡ going_on None)
   Answers old number connected now (packets.Subscribe subscribe) connected' reply new =
       (membership : Membership P) × (subscription : Option ℕ)
-      × Subscribes call slot_of old connected.session.membership connected.session.subscription subscribe reply membership subscription new
+      × Subscribes call slot_of connected.rights old connected.session.membership connected.session.subscription subscribe reply membership subscription new
       × (connected' ≡ subscribing connected membership subscription)
   Answers old number connected now (packets.Unsubscribe unsubscribe) connected' reply new =
       (membership : Membership P) × Unsubscribes call slot_of old connected.session.membership unsubscribe reply membership new
@@ -65,9 +65,9 @@ module _ {S P : Type 0} (call : S → SupplyCall P → S → Type 0) (slot_of : 
 
   -- where an allocation failed: a PUBLISH was offered to some groups, some entries of a SUBSCRIBE were answered, and nothing else was done
   abbrev pub FailsToAnswer : S → ℕ → ConnectedClient P → ℕ → Packet → ConnectedClient P → S → Type 0
-  FailsToAnswer old number connected now (packets.Publish publish) connected' new = IsCutShort call old number now publish new × (connected' ≡ connected)
+  FailsToAnswer old number connected now (packets.Publish publish) connected' new = FailsToPublish call connected.rights old number now publish new × (connected' ≡ connected)
   FailsToAnswer old number connected now (packets.Subscribe subscribe) connected' new =
-      (membership : Membership P) × AnswersSome call slot_of old connected.session.membership subscribe.subscriptions membership new
+      (membership : Membership P) × AnswersSome call slot_of connected.rights old connected.session.membership subscribe.subscriptions membership new
       × (connected' ≡ joining connected membership)
   FailsToAnswer old number connected now (packets.Unsubscribe unsubscribe) connected' new = (connected' ≡ connected) × (new ≡ old)
   FailsToAnswer old number connected now other connected' new = ⊥

@@ -61,7 +61,7 @@ pub record IsRefused {P : Type 0} (refusal : ConnectRefusal) (phase : ConnPhase 
 
 -- the connection begins, with this session
 pub record Accepts {P : Type 0} (request : ConnectRequest) (present : Bool) (session : Session Held P) (phase : ConnPhase P) (reply : Reply) : Type 0 where
-  pub begun : phase ≡ Connected (record { session = opened session request.terms; terms = request.terms; heard = request.came })
+  pub begun : phase ≡ Connected (record { session = opened session request.terms; terms = request.terms; rights = request.rights; heard = request.came })
   pub told : reply ≡ going_on (Some (accepting present (assigned request.client session.identity) request.overrides))
 
 -- the connection waits while it has found its session lent at fewer Ticks than that, and is refused then

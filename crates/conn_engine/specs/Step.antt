@@ -10,7 +10,7 @@ use Rattle.member_window.specs.Contents.{Contents}
 use Rattle.session_desk.specs.declared.session.Membership.{Membership}
 use Rattle.conn_rules.specs.declared.connecting.FirstAnswer.{FirstAnswer}
 use Rattle.conn_rules.specs.declared.connecting.FirstAnswer.TheVariants as first
-use Rattle.conn_rules.specs.Connecting.{first_answer, overrides_of, terms_of}
+use Rattle.conn_rules.specs.Connecting.{client_rights, first_answer, overrides_of, terms_of}
 use Rattle.conn_rules.specs.declared.hand_outs.HandOutTerms.{HandOutTerms}
 use Rattle.conn_rules.specs.declared.limits.ClientLimits.{ClientLimits}
 use Rattle.conn_rules.specs.Faults.{fault_code, fault_refusal}
@@ -44,12 +44,13 @@ request_of limits connect now = record {
   clean_start = connect.clean_start;
   terms = terms_of limits connect;
   overrides = overrides_of limits connect;
+  rights = client_rights limits.users connect;
   came = now;
 }
 
 -- a packet came at this moment; where the clock went back, the later one stands
 abbrev pub hearing : {P : Type 0} → ConnectedClient P → ℕ → ConnectedClient P
-hearing connected now = record { session = connected.session; terms = connected.terms; heard = max connected.heard now }
+hearing connected now = record { session = connected.session; terms = connected.terms; rights = connected.rights; heard = max connected.heard now }
 
 -- what a client is sent its messages under at this moment: its subscription's identifier (3.3.2.3.8), and its Maximum Packet Size (3.1.2.11.4)
 abbrev pub hand_out_terms : {P : Type 0} → ConnectedClient P → ℕ → HandOutTerms

@@ -33,7 +33,9 @@ pub(crate) fn answer<P: HoldingPlace, S: Supply<P>>(
     ensures visiting { S.visiting supply.new ≡ S.visiting supply.old }
 {
     match packet {
-        Packet::Publish(packet) => publish(supply, alloc, number, now, packet),
+        Packet::Publish(packet) => {
+            publish(supply, alloc, number, &connected.rights, now, packet)
+        }
         Packet::Puback(packet) => {
             let (identifier, code) = (packet.packet_identifier, packet.reason_code);
             drop(packet);
@@ -73,6 +75,7 @@ fn join<P: HoldingPlace, S: Supply<P>>(
     let (membership, replied) = subscribe(
         supply,
         alloc,
+        &connected.rights,
         membership,
         &mut connected.session.subscription,
         packet,

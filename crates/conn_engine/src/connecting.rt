@@ -220,14 +220,23 @@ fn accept<P: HoldingPlace, S: Supply<P>>(
     let session = open(session, &request.terms);
     match assigned(&request.client, &session.identity) {
         Ok(name) => {
+            let ConnectRequest {
+                client: _,
+                clean_start: _,
+                terms,
+                overrides,
+                rights,
+                came,
+            } = request;
             let connected = ConnectedClient {
                 session,
-                terms: request.terms,
-                heard: request.came,
+                terms,
+                rights,
+                heard: came,
             };
             (
                 ConnPhase::Connected(connected),
-                Ok(Reply::going_on(Some(accepting(present, name, request.overrides)))),
+                Ok(Reply::going_on(Some(accepting(present, name, overrides)))),
             )
         }
         Err(NoMemory) => {

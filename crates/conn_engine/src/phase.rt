@@ -12,6 +12,7 @@ use group_jobs::Envelope;
 use mqtt_packet::Text;
 use session_desk::{Membership, Session};
 use std::mem;
+use users::ClientRights;
 
 /// What a client asked for when it connected, and when.
 #[derive(Drop)]
@@ -24,6 +25,8 @@ pub(crate) struct ConnectRequest {
     pub terms: Terms,
     /// What of it is not as it asked.
     pub overrides: Overrides,
+    /// What the client may do.
+    pub rights: ClientRights,
     /// The moment at which the CONNECT came, in milliseconds.
     pub came: u64,
 }
@@ -34,6 +37,8 @@ pub(crate) struct ConnectedClient<P> {
     pub session: Session<Envelope, P>,
     /// What the client asked for, within the broker's limits.
     pub terms: Terms,
+    /// What the client may do.
+    pub rights: ClientRights,
     /// The moment at which its last packet came, in milliseconds.
     pub heard: u64,
 }
@@ -57,8 +62,10 @@ impl<P> ConnectedClient<P> {
         let ConnectedClient {
             session,
             terms: _,
+            rights,
             heard: _,
         } = self;
+        drop(rights);
         session
     }
 

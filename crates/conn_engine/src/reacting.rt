@@ -16,8 +16,8 @@ use crate::ending::{give_up, part_as_is, sweep};
 use crate::input::Input;
 use crate::phase::{ConnPhase, ConnectRequest, ConnectedClient, Opening};
 use conn_rules::{
-    ClientLimits, FirstAnswer, answer_to_first, disconnect, fault_code, fault_refusal, is_late,
-    is_overdue, overrides_of, terms_of,
+    ClientLimits, FirstAnswer, answer_to_first, client_rights, disconnect, fault_code,
+    fault_refusal, is_late, is_overdue, overrides_of, terms_of,
 };
 use conn_supply::{HoldingPlace, NoMemory, Reply, Supply, Then};
 use mqtt_packet::{Connect, Packet, ReasonCode};
@@ -188,7 +188,7 @@ fn connect<P: HoldingPlace, S: Supply<P>>(
                 supply,
                 number,
                 now,
-                request_of(&limits, connect.into_inner(), now),
+                request_of(limits, connect.into_inner(), now),
                 0,
             )
         }
@@ -197,16 +197,18 @@ fn connect<P: HoldingPlace, S: Supply<P>>(
 }
 
 /// What a CONNECT asks for that comes at this moment.
-fn request_of(limits: &ClientLimits, connect: Connect, now: u64) -> ConnectRequest
-    ensures { result ≡ request_of limits.now connect now }
+fn request_of(limits: ClientLimits, connect: Connect, now: u64) -> ConnectRequest
+    ensures { result ≡ request_of limits connect now }
 {
-    let terms = terms_of(limits, &connect);
-    let overrides = overrides_of(limits, &connect);
+    let terms = terms_of(&limits, &connect);
+    let overrides = overrides_of(&limits, &connect);
+    let rights = client_rights(limits.users, &connect);
     ConnectRequest {
         client: connect.client_identifier,
         clean_start: connect.clean_start,
         terms,
         overrides,
+        rights,
         came: now,
     }
 }

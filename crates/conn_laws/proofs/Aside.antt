@@ -7,6 +7,8 @@ use Rattle.mqtt_topic.specs.Names.{Share, share_of}
 use Rattle.mqtt_packet.specs.declared.packet.Subscribe.{Subscribe}
 use Rattle.mqtt_packet.specs.declared.packet.Subscription.{Subscription}
 use Rattle.mqtt_packet.specs.declared.packet.Unsubscribe.{Unsubscribe}
+use Rattle.users.specs.Table.{Rights}
+use Rattle.users.specs.Rights.{may_work}
 use Rattle.group_jobs.specs.Stamps.{Held}
 use Rattle.group_jobs.specs.declared.fate.Fate.{Fate}
 use Rattle.member_window.specs.Contents.{held_of}
@@ -21,7 +23,7 @@ use Rattle.conn_supply.specs.declared.reply.Reply.{Reply}
 use Rattle.conn_supply.specs.declared.supply.BindRefusal.{BindRefusal}
 use Rattle.conn_supply.specs.declared.supply.BindRefusal.TheVariants as refusal
 use Rattle.conn_supply.specs.SupplyCalls.{SupplyCall}
-use Rattle.conn_supply.specs.Subscribing.{IsLent, EntersAs, StaysAs, LeavesFrom, Joins, AnswersEntry, AnswersEntries, AnswersFirst, AnswersSome, SubscribesAs, LeavesBy, LeavesByAll, UnsubscribesAs}
+use Rattle.conn_supply.specs.Subscribing.{IsLent, EntersAs, StaysAs, LeavesFrom, Joins, JoinsIf, AnswersEntry, AnswersEntries, AnswersFirst, AnswersSome, SubscribesAs, LeavesBy, LeavesByAll, UnsubscribesAs}
 use Rattle.conn_engine.specs.declared.phase.ConnPhase.{ConnPhase}
 use Rattle.conn_engine.specs.declared.phase.ConnPhase.TheVariants.{Unconnected, Waiting, Connected, Ended}
 use Rattle.conn_engine.specs.Connecting.{RetiresEarlier, Withdraws}
@@ -192,31 +194,36 @@ module _ {S P : Type 0} (call : S → SupplyCall P → S → Type 0) where
     joined (Leaving place) old new share code membership' does =
         becomes (stays_at (Leaving place) does.0 place code membership' refl does.2) (beside (place ∷ []) (one old new _ does.1 tt refl refl refl refl))
 
-    entry_answered : (answer : EntryAnswer) (old new : S) (membership : Membership P) (code : ℕ) (membership' : Membership P)
-        → AnswersEntry call slot_of old membership answer code membership' new → Aside [] [] (place_in membership) (place_in membership') old new
-    entry_answered (entries.Refuse code') old new membership code membership' answers = still old new (ap place_in answers.1) answers.2
-    entry_answered (entries.Join share) old new membership code membership' answers = joined membership old new share code membership' answers
+    joined_if : (allowed : Bool) (membership : Membership P) (old new : S) (share : Share) (code : ℕ) (membership' : Membership P)
+        → JoinsIf call slot_of allowed old membership share code membership' new → Aside [] [] (place_in membership) (place_in membership') old new
+    joined_if true membership old new share code membership' does = joined membership old new share code membership' does
+    joined_if false membership old new share code membership' does = still old new (ap place_in does.1) does.2
 
-    pub entries_answered : (subscriptions : List Subscription) (old new : S) (membership : Membership P) (codes : List ℕ) (membership' : Membership P)
-        → AnswersEntries call slot_of old membership subscriptions codes membership' new → Aside [] [] (place_in membership) (place_in membership') old new
-    entries_answered [] old new membership codes membership' answers = still old new (ap place_in answers.1) answers.2
-    entries_answered (entry ∷ others) old new membership codes membership' answers =
-        behind old answers.3 new (entry_answered (entry_answer entry) old answers.3 membership answers.0 answers.2 answers.4)
-        (entries_answered others answers.3 new answers.2 answers.1 membership' answers.5)
+    entry_answered : (rights : Rights) (answer : EntryAnswer) (old new : S) (membership : Membership P) (code : ℕ) (membership' : Membership P)
+        → AnswersEntry call slot_of rights old membership answer code membership' new → Aside [] [] (place_in membership) (place_in membership') old new
+    entry_answered rights (entries.Refuse code') old new membership code membership' answers = still old new (ap place_in answers.1) answers.2
+    entry_answered rights (entries.Join share) old new membership code membership' answers = joined_if (may_work rights share.text) membership old new share code membership' answers
 
-    first_answered : (subscriptions : List Subscription) (old new : S) (membership membership' : Membership P)
-        → AnswersFirst call slot_of old membership subscriptions membership' new → Aside [] [] (place_in membership) (place_in membership') old new
-    first_answered [] old new membership membership' answers = absurd answers
-    first_answered (entry ∷ others) old new membership membership' (inl unbound) =
+    pub entries_answered : (rights : Rights) (subscriptions : List Subscription) (old new : S) (membership : Membership P) (codes : List ℕ) (membership' : Membership P)
+        → AnswersEntries call slot_of rights old membership subscriptions codes membership' new → Aside [] [] (place_in membership) (place_in membership') old new
+    entries_answered rights [] old new membership codes membership' answers = still old new (ap place_in answers.1) answers.2
+    entries_answered rights (entry ∷ others) old new membership codes membership' answers =
+        behind old answers.3 new (entry_answered rights (entry_answer entry) old answers.3 membership answers.0 answers.2 answers.4)
+        (entries_answered rights others answers.3 new answers.2 answers.1 membership' answers.5)
+
+    first_answered : (rights : Rights) (subscriptions : List Subscription) (old new : S) (membership membership' : Membership P)
+        → AnswersFirst call slot_of rights old membership subscriptions membership' new → Aside [] [] (place_in membership) (place_in membership') old new
+    first_answered rights [] old new membership membership' answers = absurd answers
+    first_answered rights (entry ∷ others) old new membership membership' (inl unbound) =
         becomes (ap place_in unbound.2) (beside (place_in membership) (one old new _ unbound.1 tt refl refl refl refl))
-    first_answered (entry ∷ others) old new membership membership' (inr answers) =
-        behind old answers.2 new (entry_answered (entry_answer entry) old answers.2 membership answers.0 answers.1 answers.3)
-        (first_answered others answers.2 new answers.1 membership' answers.4)
+    first_answered rights (entry ∷ others) old new membership membership' (inr answers) =
+        behind old answers.2 new (entry_answered rights (entry_answer entry) old answers.2 membership answers.0 answers.1 answers.3)
+        (first_answered rights others answers.2 new answers.1 membership' answers.4)
 
-    pub some_answered : (old new : S) (subscriptions : List Subscription) (membership membership' : Membership P)
-        → AnswersSome call slot_of old membership subscriptions membership' new → Aside [] [] (place_in membership) (place_in membership') old new
-    some_answered old new subscriptions membership membership' (inl none) = still old new (ap place_in none.0) none.1
-    some_answered old new subscriptions membership membership' (inr answers) = first_answered subscriptions old new membership membership' answers
+    pub some_answered : (rights : Rights) (old new : S) (subscriptions : List Subscription) (membership membership' : Membership P)
+        → AnswersSome call slot_of rights old membership subscriptions membership' new → Aside [] [] (place_in membership) (place_in membership') old new
+    some_answered rights old new subscriptions membership membership' (inl none) = still old new (ap place_in none.0) none.1
+    some_answered rights old new subscriptions membership membership' (inr answers) = first_answered rights subscriptions old new membership membership' answers
 
     left : (membership : Membership P) (parsed : Result Share TopicError) (old new : S) (code : ℕ) (membership' : Membership P)
         → LeavesBy call slot_of old membership parsed code membership' new → Aside [] [] (place_in membership) (place_in membership') old new
@@ -232,10 +239,10 @@ module _ {S P : Type 0} (call : S → SupplyCall P → S → Type 0) where
     all_left (text ∷ texts) old new membership codes membership' leaves =
         behind old leaves.3 new (left membership (share_of text) old leaves.3 leaves.0 leaves.2 leaves.4) (all_left texts leaves.3 new leaves.2 leaves.1 membership' leaves.5)
 
-    pub subscribed_as : (refused : Option ℕ) (old new : S) (membership : Membership P) (subscription : Option ℕ) (subscribe : Subscribe) (reply : Reply) (membership' : Membership P) (subscription' : Option ℕ)
-        → SubscribesAs call slot_of refused old membership subscription subscribe reply membership' subscription' new → Aside [] [] (place_in membership) (place_in membership') old new
-    subscribed_as (Some code) old new membership subscription subscribe reply membership' subscription' does = still old new (ap place_in does.1) does.3
-    subscribed_as None old new membership subscription subscribe reply membership' subscription' does = entries_answered subscribe.subscriptions old new membership does.0 membership' does.2
+    pub subscribed_as : (rights : Rights) (refused : Option ℕ) (old new : S) (membership : Membership P) (subscription : Option ℕ) (subscribe : Subscribe) (reply : Reply) (membership' : Membership P) (subscription' : Option ℕ)
+        → SubscribesAs call slot_of refused rights old membership subscription subscribe reply membership' subscription' new → Aside [] [] (place_in membership) (place_in membership') old new
+    subscribed_as rights (Some code) old new membership subscription subscribe reply membership' subscription' does = still old new (ap place_in does.1) does.3
+    subscribed_as rights None old new membership subscription subscribe reply membership' subscription' does = entries_answered rights subscribe.subscriptions old new membership does.0 membership' does.2
 
     pub unsubscribed_as : (refused : Option ℕ) (old new : S) (membership : Membership P) (unsubscribe : Unsubscribe) (reply : Reply) (membership' : Membership P)
         → UnsubscribesAs call slot_of refused old membership unsubscribe reply membership' new → Aside [] [] (place_in membership) (place_in membership') old new

@@ -4,6 +4,7 @@ use Rattle.std.proofs.lemmas.List.Elements.{filter_map-append}
 use Rattle.mqtt_packet.specs.declared.packet.Subscribe.{Subscribe}
 use Rattle.mqtt_packet.specs.declared.packet.Subscription.{Subscription}
 use Rattle.mqtt_packet.specs.declared.packet.Unsubscribe.{Unsubscribe}
+use Rattle.users.specs.Table.{Rights}
 use Rattle.group_jobs.specs.Stamps.{Held, under}
 use Rattle.group_jobs.specs.declared.fate.Fate.{Fate}
 use Rattle.member_window.specs.Contents.{Contents, after_put}
@@ -240,17 +241,17 @@ module _ {S P : Type 0} (call : S → SupplyCall P → S → Type 0) where
 
   -- shares are joined and left
   module _ (slot_of : P → ℕ) where
-    pub subscribed_as : (refused : Option ℕ) (old new : S) (membership : Membership P) (subscription : Option ℕ) (subscribe : Subscribe) (reply : Reply) (membership' : Membership P) (subscription' : Option ℕ)
-        → SubscribesAs call slot_of refused old membership subscription subscribe reply membership' subscription' new → Plain [] [] (place_in membership) (place_in membership') old new
-    subscribed_as refused old new membership subscription subscribe reply membership' subscription' does =
-        plain [] old new (asides.subscribed_as call slot_of refused old new membership subscription subscribe reply membership' subscription' does)
+    pub subscribed_as : (rights : Rights) (refused : Option ℕ) (old new : S) (membership : Membership P) (subscription : Option ℕ) (subscribe : Subscribe) (reply : Reply) (membership' : Membership P) (subscription' : Option ℕ)
+        → SubscribesAs call slot_of refused rights old membership subscription subscribe reply membership' subscription' new → Plain [] [] (place_in membership) (place_in membership') old new
+    subscribed_as rights refused old new membership subscription subscribe reply membership' subscription' does =
+        plain [] old new (asides.subscribed_as call slot_of rights refused old new membership subscription subscribe reply membership' subscription' does)
 
     pub unsubscribed_as : (refused : Option ℕ) (old new : S) (membership : Membership P) (unsubscribe : Unsubscribe) (reply : Reply) (membership' : Membership P)
         → UnsubscribesAs call slot_of refused old membership unsubscribe reply membership' new → Plain [] [] (place_in membership) (place_in membership') old new
     unsubscribed_as refused old new membership unsubscribe reply membership' does =
         plain [] old new (asides.unsubscribed_as call slot_of refused old new membership unsubscribe reply membership' does)
 
-    pub some_answered : (old new : S) (subscriptions : List Subscription) (membership membership' : Membership P)
-        → AnswersSome call slot_of old membership subscriptions membership' new → Plain [] [] (place_in membership) (place_in membership') old new
-    some_answered old new subscriptions membership membership' answers =
-        plain [] old new (asides.some_answered call slot_of old new subscriptions membership membership' answers)
+    pub some_answered : (rights : Rights) (old new : S) (subscriptions : List Subscription) (membership membership' : Membership P)
+        → AnswersSome call slot_of rights old membership subscriptions membership' new → Plain [] [] (place_in membership) (place_in membership') old new
+    some_answered rights old new subscriptions membership membership' answers =
+        plain [] old new (asides.some_answered call slot_of rights old new subscriptions membership membership' answers)

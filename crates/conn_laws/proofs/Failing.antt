@@ -1,5 +1,5 @@
 -- A step that wants memory is a list of calls.
-use Rattle.std.proofs.Common.{◌≡◌, ℕ, List, [], ◌∷◌, ◌++◌, map, Result, refl, sym, ap, subst, ◌∙◌, append-nil, inl, inr, ⊎_elim}
+use Rattle.std.proofs.Common.{◌≡◌, ℕ, List, [], ◌∷◌, ◌++◌, map, Result, refl, sym, ap, subst, ◌∙◌, append-nil, inl, inr, ⊎_elim, true}
 use Rattle.mqtt_packet.specs.declared.packet.Packet.{Packet}
 use Rattle.mqtt_packet.specs.declared.packet.Packet.TheVariants as packets
 use Rattle.mqtt_packet.specs.declared.packet.Publish.{Publish}
@@ -17,7 +17,7 @@ use Rattle.conn_engine.specs.declared.phase.ConnPhase.{ConnPhase}
 use Rattle.conn_engine.specs.declared.phase.ConnPhase.TheVariants.{Unconnected, Waiting, Connected, Ended}
 use Rattle.conn_engine.specs.Answering.{FailsToAnswer}
 use Rattle.conn_laws.specs.Places.{own_places, KeepsPlaces}
-use Rattle.conn_laws.specs.Calls.{offer_of, match_of, settlement_of, offered, matched, settled, hand_out_of, handed, Outcome, hand_outs_of, discards_of, MakesAll, OffersToEach, OffersNone, SettlesOne, SettlesNone, OffersToSome, FailedCalls}
+use Rattle.conn_laws.specs.Calls.{is_allowed, offer_of, match_of, settlement_of, offered, matched, settled, hand_out_of, handed, Outcome, hand_outs_of, discards_of, MakesAll, OffersToEach, OffersNone, SettlesOne, SettlesNone, OffersToSome, FailedCalls}
 use Rattle.conn_supply.specs.Publishing.{OffersFirst, OffersSome, IsCutShort}
 use Rattle.conn_engine.specs.Step.{hearing, after_hand_out, hand_out_terms, GivesUp, ShutsDown, CutsOff, FailsToReact, HandsLess, FailsToHand, FailsToStep}
 use Rattle.conn_laws.proofs.KeptPlaces.{kept_by_none, kept_by_one, kept_by_both, kept_beside}
@@ -39,11 +39,12 @@ module _ {S P : Type 0} (call : S → SupplyCall P → S → Type 0) where
         places = calls.places;
       }
 
-  some_of : (number now : ℕ) (input : Input) (supply_calls : List (SupplyCall P)) → OffersToEach number now input supply_calls → OffersToSome number now input supply_calls
-  some_of number now input supply_calls each =
+  some_of : (number now : ℕ) (phase : ConnPhase P) (input : Input) (supply_calls : List (SupplyCall P)) → OffersToEach number now phase input supply_calls → OffersToSome number now phase input supply_calls
+  some_of number now phase input supply_calls each =
       record {
         publish = each.publish;
         came = each.came;
+        allowed = each.allowed;
         slots = each.slots;
         others = [];
         match = each.match ∙ ap (λ slots. (each.publish.topic, slots) ∷ []) (sym (append-nil each.slots));
@@ -59,7 +60,7 @@ module _ {S P : Type 0} (call : S → SupplyCall P → S → Type 0) where
         made = calls.made;
         offers =
             ⊎_elim
-            (λ (each : OffersToEach number now input calls.supply_calls). inl (some_of number now input calls.supply_calls each))
+            (λ (each : OffersToEach number now phase input calls.supply_calls). inl (some_of number now phase input calls.supply_calls each))
             (λ (none : OffersNone phase input calls.supply_calls next). inr none.offers)
             calls.offers;
         outcomes = outcomes;
@@ -136,9 +137,9 @@ module _ {S P : Type 0} (call : S → SupplyCall P → S → Type 0) where
 
   -- a PUBLISH that was cut short, with calls by which nothing is offered before and after it
   cut_short : (old before after new : S) (number now : ℕ) (phase : ConnPhase P) (publish : Publish) → Plain call [] [] (own_places phase) (own_places phase) old before
-      → IsCutShort call before number now publish after → Plain call [] [] (own_places phase) [] after new
+      → IsCutShort call before number now publish after → is_allowed phase publish ≡ true → Plain call [] [] (own_places phase) [] after new
       → FailedCalls call old number phase now (inputs.Packet (packets.Publish publish)) new
-  cut_short old before after new number now phase publish first cut last =
+  cut_short old before after new number now phase publish first cut allowed last =
       let part = part_of cut.slots cut.mid after number (message_of now publish) cut.offered in
       let match : SupplyCall P = Match publish.topic cut.slots in
       let these = match ∷ part.supply_calls in
@@ -150,6 +151,7 @@ module _ {S P : Type 0} (call : S → SupplyCall P → S → Type 0) where
         offers = inl (record {
           publish = publish;
           came = refl;
+          allowed = allowed;
           slots = part.these;
           others = part.others;
           match =
@@ -195,12 +197,12 @@ module _ {S P : Type 0} (call : S → SupplyCall P → S → Type 0) where
         → Plain call [] [] (own_places (Connected connected)) (own_places (Connected connected)) old before → FailsToAnswer call slot_of before number (hearing connected now) now packet connected' after
         → Plain call [] [] (own_places (Connected connected')) [] after new → FailedCalls call old number (Connected connected) now (inputs.Packet packet) new
     failed_to_answer (packets.Publish publish) old before after new number now connected connected' first fails last =
-        cut_short old before after new number now (Connected connected) publish first fails.0 (later connected' _ after new fails.1 last)
+        cut_short old before after new number now (Connected connected) publish first fails.0.0 fails.0.1 (later connected' _ after new fails.1 last)
     failed_to_answer (packets.Subscribe subscribe) old before after new number now connected connected' first fails last =
         plain [] old new number now (Connected connected) _ (
         behind call old before new first (
         behind call before after new
-        (some_answered call slot_of before after subscribe.subscriptions connected.session.membership fails.0 fails.1)
+        (some_answered call slot_of connected.rights before after subscribe.subscriptions connected.session.membership fails.0 fails.1)
         (later connected' _ after new fails.2 last)))
     failed_to_answer (packets.Unsubscribe unsubscribe) old before after new number now connected connected' first fails last =
         plain [] old new number now (Connected connected) _ (behind call old before new first (behind call before after new (still call before after refl fails.1) (later connected' _ after new fails.0 last)))

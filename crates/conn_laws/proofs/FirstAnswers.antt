@@ -3,11 +3,11 @@ use Rattle.std.proofs.Common.{◌≡◌, Bool, true, false, if◌then◌else◌,
 use Rattle.std.specs.Prelude.{nat_lt, is_some}
 use Rattle.mqtt_packet.specs.declared.packet.Connect.{Connect}
 use Rattle.mqtt_packet.specs.declared.packet.ConnectRefusal.{ConnectRefusal}
-use Rattle.mqtt_packet.specs.declared.packet.ConnectRefusal.TheVariants.{ImplementationSpecificError, ClientIdentifierNotValid, BadUserNameOrPassword, BadAuthenticationMethod}
+use Rattle.mqtt_packet.specs.declared.packet.ConnectRefusal.TheVariants.{ImplementationSpecificError, ClientIdentifierNotValid, BadAuthenticationMethod}
 use Rattle.users.specs.Table.{UserTable}
 use Rattle.conn_rules.specs.declared.connecting.FirstAnswer.{FirstAnswer}
 use Rattle.conn_rules.specs.declared.connecting.FirstAnswer.TheVariants as first
-use Rattle.conn_rules.specs.Connecting.{connect_answer, is_served, is_under}
+use Rattle.conn_rules.specs.Connecting.{connect_answer, is_served, is_under, unserved}
 
 pub not_closed : (small : Bool) (rest : FirstAnswer) (refusal : ConnectRefusal) → (if small then first.Close else rest) ≡ first.Refuse refusal → small ≡ false
 not_closed true rest refusal is = absurd cc
@@ -32,7 +32,7 @@ attached false refusal is = absurd cc
 -- a client whose session is looked for is served
 pub is_served_there : (users : Option UserTable) (connect : Connect) → connect_answer users connect ≡ first.Attach → is_served users connect ≡ true
 is_served_there users connect is =
-    attached (is_served users connect) BadUserNameOrPassword
+    attached (is_served users connect) (unserved users connect)
     (unrefused (nat_lt 128 (length connect.client_identifier)) ClientIdentifierNotValid _
     (unrefused (is_some connect.properties.authentication) BadAuthenticationMethod _
     (unrefused (is_under 64 connect.properties.maximum_packet_size) ImplementationSpecificError _

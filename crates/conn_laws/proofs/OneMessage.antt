@@ -1,6 +1,8 @@
 -- A PUBLISH and a PUBACK have one answer, where each call has one.
-use Rattle.std.proofs.Common.{◌≡◌, ◌≢◌, ℕ, ◌+◌, length, List, [], ◌∷◌, Option, Some, None, Result, Ok, Err, Contains, refl, sym, ap, ◌∙◌, subst, ⊎_elim}
+use Rattle.std.proofs.Common.{◌≡◌, ◌≢◌, ℕ, ◌+◌, length, List, [], ◌∷◌, Option, Some, None, Result, Ok, Err, Contains, refl, sym, ap, ◌∙◌, subst, ⊎_elim, Bool, true, false}
 use Rattle.mqtt_packet.specs.declared.packet.Publish.{Publish}
+use Rattle.users.specs.Table.{Rights}
+use Rattle.users.specs.Rights.{may_publish}
 use Rattle.group_jobs.specs.Stamps.{Held}
 use Rattle.group_jobs.specs.declared.message.Message.{Message}
 use Rattle.group_jobs.specs.declared.stamp.Stamp.{Stamp}
@@ -22,7 +24,7 @@ use Rattle.conn_supply.specs.SupplyCalls.{SupplyCall}
 use Rattle.conn_laws.specs.Asking.{OneAnswer}
 use Rattle.conn_supply.specs.Memberships.{with_window, with_membership}
 use Rattle.conn_supply.specs.Replies.{acknowledging}
-use Rattle.conn_supply.specs.Publishing.{Took, Offers, IsOffered, AnswersPublish, Publishes}
+use Rattle.conn_supply.specs.Publishing.{Took, Offers, OffersIf, IsOffered, AnswersPublish, Publishes}
 use Rattle.conn_supply.specs.Acknowledging.{Settles, SettlesIn, AcknowledgesFor, Acknowledges}
 use Rattle.conn_laws.proofs.OneCall as calls
 
@@ -79,14 +81,20 @@ module _ {S P : Type 0} (call : S → SupplyCall P → S → Type 0) (AreAlike :
       let taken = offered h.slots h.mid a' k.mid b' connection (message_of now publish) h.taken k.taken one.1 h.offered (subst (λ slots. Offers call k.mid connection (message_of now publish) slots k.taken b') (sym one.0) k.offered) in
       (h.replied ∙ (λ i. acknowledging identifier (puback_code (length (one.0 i)) (taken.0 i))) ∙ sym k.replied, taken.1)
 
-  answered : (which : PublishAnswer) (a a' b b' : S) (connection now : ℕ) (publish : Publish) (r u : Reply) → AreAlike a b
-      → AnswersPublish call a connection now publish which r a' → AnswersPublish call b connection now publish which u b' → (r ≡ u) × AreAlike a' b'
-  answered (answer.Close code) a a' b b' connection now publish r u alike h k = (h.0 ∙ sym k.0, calls.still call AreAlike answers a a' b b' alike h.1 k.1)
-  answered (answer.Offer identifier) a a' b b' connection now publish r u alike h k = offered_to a a' b b' connection now publish identifier r u alike h k
+  offered_if : (allowed : Bool) (a a' b b' : S) (connection now : ℕ) (publish : Publish) (identifier : ℕ) (r u : Reply) → AreAlike a b
+      → OffersIf call allowed a connection now publish identifier r a' → OffersIf call allowed b connection now publish identifier u b' → (r ≡ u) × AreAlike a' b'
+  offered_if true a a' b b' connection now publish identifier r u alike h k = offered_to a a' b b' connection now publish identifier r u alike h k
+  offered_if false a a' b b' connection now publish identifier r u alike h k = (h.0 ∙ sym k.0, calls.still call AreAlike answers a a' b b' alike h.1 k.1)
 
-  pub published : (a a' b b' : S) (connection now : ℕ) (publish : Publish) (r u : Reply) → AreAlike a b
-      → Publishes call a connection now publish r a' → Publishes call b connection now publish u b' → (r ≡ u) × AreAlike a' b'
-  published a a' b b' connection now publish r u alike h k = answered (publish_answer publish) a a' b b' connection now publish r u alike h k
+  answered : (rights : Rights) (which : PublishAnswer) (a a' b b' : S) (connection now : ℕ) (publish : Publish) (r u : Reply) → AreAlike a b
+      → AnswersPublish call rights a connection now publish which r a' → AnswersPublish call rights b connection now publish which u b' → (r ≡ u) × AreAlike a' b'
+  answered rights (answer.Close code) a a' b b' connection now publish r u alike h k = (h.0 ∙ sym k.0, calls.still call AreAlike answers a a' b b' alike h.1 k.1)
+  answered rights (answer.Offer identifier) a a' b b' connection now publish r u alike h k =
+      offered_if (may_publish rights publish.topic) a a' b b' connection now publish identifier r u alike h k
+
+  pub published : (rights : Rights) (a a' b b' : S) (connection now : ℕ) (publish : Publish) (r u : Reply) → AreAlike a b
+      → Publishes call rights a connection now publish r a' → Publishes call rights b connection now publish u b' → (r ≡ u) × AreAlike a' b'
+  published rights a a' b b' connection now publish r u alike h k = answered rights (publish_answer publish) a a' b b' connection now publish r u alike h k
 
   -- a PUBACK
   settled : (found : Option Held) (a a' b b' : S) (place p q : P) (code : ℕ) → AreAlike a b → Settles call a place code found p a' → Settles call b place code found q b' → (p ≡ q) × AreAlike a' b'

@@ -1,11 +1,13 @@
 -- A SUBSCRIBE and an UNSUBSCRIBE have one answer, where each call has one.
-use Rattle.std.proofs.Common.{◌≡◌, ◌≢◌, ℕ, List, [], ◌∷◌, Option, Some, None, Result, Ok, Err, sym, ap, ◌∙◌, subst, inl, inr}
+use Rattle.std.proofs.Common.{◌≡◌, ◌≢◌, ℕ, List, [], ◌∷◌, Option, Some, None, Result, Ok, Err, sym, ap, ◌∙◌, subst, inl, inr, Bool, true, false}
 use Rattle.std.proofs.lemmas.Option.{same_Some}
 use Rattle.mqtt_packet.specs.declared.packet.Subscribe.{Subscribe}
 use Rattle.mqtt_packet.specs.declared.packet.Subscription.{Subscription}
 use Rattle.mqtt_packet.specs.declared.packet.Unsubscribe.{Unsubscribe}
 use Rattle.mqtt_topic.specs.declared.error.TopicError.{TopicError}
 use Rattle.mqtt_topic.specs.Names.{Share, share_of}
+use Rattle.users.specs.Table.{Rights}
+use Rattle.users.specs.Rights.{may_work}
 use Rattle.conn_rules.specs.declared.subscribing.EntryAnswer.{EntryAnswer}
 use Rattle.conn_rules.specs.declared.subscribing.EntryAnswer.TheVariants as entries
 use Rattle.conn_rules.specs.Subscribing.{entry_answer, subscribe_refusal, unsubscribe_refusal}
@@ -18,7 +20,7 @@ use Rattle.conn_supply.specs.declared.supply.BindRefusal.TheVariants as refusal
 use Rattle.conn_supply.specs.SupplyCalls.{SupplyCall}
 use Rattle.conn_laws.specs.Asking.{OneAnswer}
 use Rattle.conn_supply.specs.Replies.{going_on}
-use Rattle.conn_supply.specs.Subscribing.{IsLent, EntersAs, StaysAs, Joins, AnswersEntry, AnswersEntries, subscription_after, SubscribesAs, Subscribes, LeavesFrom, LeavesBy, LeavesByAll, UnsubscribesAs, Unsubscribes}
+use Rattle.conn_supply.specs.Subscribing.{IsLent, EntersAs, StaysAs, Joins, JoinsIf, AnswersEntry, AnswersEntries, subscription_after, SubscribesAs, Subscribes, LeavesFrom, LeavesBy, LeavesByAll, UnsubscribesAs, Unsubscribes}
 use Rattle.conn_laws.proofs.OneCall as calls
 use Rattle.conn_laws.proofs.OneEnding.{none_some}
 
@@ -105,34 +107,39 @@ module _ {S P : Type 0} (call : S → SupplyCall P → S → Type 0) (AreAlike :
   joined (Leaving place) a a' b b' share c d m n alike h k =
       stays a a' b b' share place (Leaving place) h.0 k.0 c d m n alike (calls.found call AreAlike answers a a' b b' share h.0 k.0 alike h.1 k.1) h.2 k.2
 
-  entry_answered : (which : EntryAnswer) (a a' b b' : S) (old : Membership P) (c d : ℕ) (m n : Membership P) → AreAlike a b
-      → AnswersEntry call slot_of a old which c m a' → AnswersEntry call slot_of b old which d n b' → Agree c d m n a' b'
-  entry_answered (entries.Refuse code) a a' b b' old c d m n alike h k = ((h.0 ∙ sym k.0, h.1 ∙ sym k.1), calls.still call AreAlike answers a a' b b' alike h.2 k.2)
-  entry_answered (entries.Join share) a a' b b' old c d m n alike h k = joined old a a' b b' share c d m n alike h k
+  joined_if : (allowed : Bool) (old : Membership P) (a a' b b' : S) (share : Share) (c d : ℕ) (m n : Membership P) → AreAlike a b
+      → JoinsIf call slot_of allowed a old share c m a' → JoinsIf call slot_of allowed b old share d n b' → Agree c d m n a' b'
+  joined_if true old a a' b b' share c d m n alike h k = joined old a a' b b' share c d m n alike h k
+  joined_if false old a a' b b' share c d m n alike h k = ((h.0 ∙ sym k.0, h.1 ∙ sym k.1), calls.still call AreAlike answers a a' b b' alike h.2 k.2)
 
-  entries_answered : (subscriptions : List Subscription) (a a' b b' : S) (old : Membership P) (cs ds : List ℕ) (m n : Membership P) → AreAlike a b
-      → AnswersEntries call slot_of a old subscriptions cs m a' → AnswersEntries call slot_of b old subscriptions ds n b' → (cs ≡ ds) × (m ≡ n) × AreAlike a' b'
-  entries_answered [] a a' b b' old cs ds m n alike h k = (h.0 ∙ sym k.0, h.1 ∙ sym k.1, calls.still call AreAlike answers a a' b b' alike h.2 k.2)
-  entries_answered (entry ∷ others) a a' b b' old cs ds m n alike h k =
-      let one = entry_answered (entry_answer entry) a h.3 b k.3 old h.0 k.0 h.2 k.2 alike h.4 k.4 in
-      let rest = entries_answered others h.3 a' k.3 b' h.2 h.1 k.1 m n one.1 h.5 (subst (λ was. AnswersEntries call slot_of k.3 was others k.1 n b') (sym one.0.1) k.5) in
+  entry_answered : (rights : Rights) (which : EntryAnswer) (a a' b b' : S) (old : Membership P) (c d : ℕ) (m n : Membership P) → AreAlike a b
+      → AnswersEntry call slot_of rights a old which c m a' → AnswersEntry call slot_of rights b old which d n b' → Agree c d m n a' b'
+  entry_answered rights (entries.Refuse code) a a' b b' old c d m n alike h k = ((h.0 ∙ sym k.0, h.1 ∙ sym k.1), calls.still call AreAlike answers a a' b b' alike h.2 k.2)
+  entry_answered rights (entries.Join share) a a' b b' old c d m n alike h k = joined_if (may_work rights share.text) old a a' b b' share c d m n alike h k
+
+  entries_answered : (rights : Rights) (subscriptions : List Subscription) (a a' b b' : S) (old : Membership P) (cs ds : List ℕ) (m n : Membership P) → AreAlike a b
+      → AnswersEntries call slot_of rights a old subscriptions cs m a' → AnswersEntries call slot_of rights b old subscriptions ds n b' → (cs ≡ ds) × (m ≡ n) × AreAlike a' b'
+  entries_answered rights [] a a' b b' old cs ds m n alike h k = (h.0 ∙ sym k.0, h.1 ∙ sym k.1, calls.still call AreAlike answers a a' b b' alike h.2 k.2)
+  entries_answered rights (entry ∷ others) a a' b b' old cs ds m n alike h k =
+      let one = entry_answered rights (entry_answer entry) a h.3 b k.3 old h.0 k.0 h.2 k.2 alike h.4 k.4 in
+      let rest = entries_answered rights others h.3 a' k.3 b' h.2 h.1 k.1 m n one.1 h.5 (subst (λ was. AnswersEntries call slot_of rights k.3 was others k.1 n b') (sym one.0.1) k.5) in
       (h.6 ∙ (λ i. one.0.0 i ∷ rest.0 i) ∙ sym k.6, rest.1, rest.2)
 
-  subscribed_as : (refused : Option ℕ) (a a' b b' : S) (old : Membership P) (was : Option ℕ) (subscribe : Subscribe) (r u : Reply) (m n : Membership P) (s t : Option ℕ) → AreAlike a b
-      → SubscribesAs call slot_of refused a old was subscribe r m s a' → SubscribesAs call slot_of refused b old was subscribe u n t b' → (r ≡ u) × (m ≡ n) × (s ≡ t) × AreAlike a' b'
-  subscribed_as (Some code) a a' b b' old was subscribe r u m n s t alike h k =
+  subscribed_as : (rights : Rights) (refused : Option ℕ) (a a' b b' : S) (old : Membership P) (was : Option ℕ) (subscribe : Subscribe) (r u : Reply) (m n : Membership P) (s t : Option ℕ) → AreAlike a b
+      → SubscribesAs call slot_of refused rights a old was subscribe r m s a' → SubscribesAs call slot_of refused rights b old was subscribe u n t b' → (r ≡ u) × (m ≡ n) × (s ≡ t) × AreAlike a' b'
+  subscribed_as rights (Some code) a a' b b' old was subscribe r u m n s t alike h k =
       (h.0 ∙ sym k.0, h.1 ∙ sym k.1, h.2 ∙ sym k.2, calls.still call AreAlike answers a a' b b' alike h.3 k.3)
-  subscribed_as None a a' b b' old was subscribe r u m n s t alike h k =
-      let one = entries_answered subscribe.subscriptions a a' b b' old h.0 k.0 m n alike h.2 k.2 in (
+  subscribed_as rights None a a' b b' old was subscribe r u m n s t alike h k =
+      let one = entries_answered rights subscribe.subscriptions a a' b b' old h.0 k.0 m n alike h.2 k.2 in (
         h.1 ∙ ap (λ codes. going_on (Some (suback subscribe.packet_identifier codes))) one.0 ∙ sym k.1,
         one.1,
         h.3 ∙ ap (λ codes. subscription_after codes subscribe.properties.subscription_identifier was) one.0 ∙ sym k.3,
         one.2,
       )
 
-  pub subscribed : (a a' b b' : S) (old : Membership P) (was : Option ℕ) (subscribe : Subscribe) (r u : Reply) (m n : Membership P) (s t : Option ℕ) → AreAlike a b
-      → Subscribes call slot_of a old was subscribe r m s a' → Subscribes call slot_of b old was subscribe u n t b' → (r ≡ u) × (m ≡ n) × (s ≡ t) × AreAlike a' b'
-  subscribed a a' b b' old was subscribe r u m n s t alike h k = subscribed_as (subscribe_refusal subscribe) a a' b b' old was subscribe r u m n s t alike h k
+  pub subscribed : (rights : Rights) (a a' b b' : S) (old : Membership P) (was : Option ℕ) (subscribe : Subscribe) (r u : Reply) (m n : Membership P) (s t : Option ℕ) → AreAlike a b
+      → Subscribes call slot_of rights a old was subscribe r m s a' → Subscribes call slot_of rights b old was subscribe u n t b' → (r ≡ u) × (m ≡ n) × (s ≡ t) × AreAlike a' b'
+  subscribed rights a a' b b' old was subscribe r u m n s t alike h k = subscribed_as rights (subscribe_refusal subscribe) a a' b b' old was subscribe r u m n s t alike h k
 
   -- a share is left
   left : (old : Membership P) (parsed : Result Share TopicError) (a a' b b' : S) (c d : ℕ) (m n : Membership P) → AreAlike a b

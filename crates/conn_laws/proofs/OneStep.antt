@@ -67,12 +67,12 @@ module _ {S P : Type 0} (call : S → SupplyCall P → S → Type 0) (AreAlike :
   answered : (packet : Packet) (a a' b b' : S) (number now : ℕ) (connected m n : ConnectedClient P) (r u : Reply) → AreAlike a b
       → Answers call slot_of a number connected now packet m r a' → Answers call slot_of b number connected now packet n u b' → (m ≡ n) × (r ≡ u) × AreAlike a' b'
   answered (packets.Publish publish) a a' b b' number now connected m n r u alike h k =
-      let one = messages.published call AreAlike answers a a' b b' number now publish r u alike h.0 k.0 in (h.1 ∙ sym k.1, one.0, one.1)
+      let one = messages.published call AreAlike answers connected.rights a a' b b' number now publish r u alike h.0 k.0 in (h.1 ∙ sym k.1, one.0, one.1)
   answered (packets.Puback puback) a a' b b' number now connected m n r u alike h k =
       let one = messages.acknowledged call AreAlike answers a a' b b' connected.session h.0 k.0 puback.packet_identifier puback.reason_code alike h.1 k.1 in
       (h.2 ∙ ap (with_session connected) one.0 ∙ sym k.2, h.3 ∙ sym k.3, one.1)
   answered (packets.Subscribe subscribe) a a' b b' number now connected m n r u alike h k =
-      let one = shares.subscribed call AreAlike answers slot_of a a' b b' connected.session.membership connected.session.subscription subscribe r u h.0 k.0 h.1 k.1 alike h.2 k.2 in
+      let one = shares.subscribed call AreAlike answers slot_of connected.rights a a' b b' connected.session.membership connected.session.subscription subscribe r u h.0 k.0 h.1 k.1 alike h.2 k.2 in
       (h.3 ∙ (λ i. subscribing connected (one.1 i) (one.2 i)) ∙ sym k.3, one.0, one.3)
   answered (packets.Unsubscribe unsubscribe) a a' b b' number now connected m n r u alike h k =
       let one = shares.unsubscribed call AreAlike answers slot_of a a' b b' connected.session.membership unsubscribe r u h.0 k.0 alike h.1 k.1 in

@@ -50,7 +50,7 @@ module _ {S P : Type 0} (call : S → SupplyCall P → S → Type 0) where
           made = calls.made;
           from =
               ⊎_elim
-              (λ (each : OffersToEach number now input calls.supply_calls). subst (AllFrom number) (sym each.offers) (to_each number (message_of now each.publish) each.slots))
+              (λ (each : OffersToEach number now phase input calls.supply_calls). subst (AllFrom number) (sym each.offers) (to_each number (message_of now each.publish) each.slots))
               (λ (nothing : OffersNone phase input calls.supply_calls next). subst (AllFrom number) (sym nothing.offers) tt)
               calls.offers;
         }
@@ -63,7 +63,7 @@ module _ {S P : Type 0} (call : S → SupplyCall P → S → Type 0) where
           made = calls.made;
           from =
               ⊎_elim
-              (λ (some : OffersToSome number now input calls.supply_calls). subst (AllFrom number) (sym some.offers) (to_each number (message_of now some.publish) some.slots))
+              (λ (some : OffersToSome number now phase input calls.supply_calls). subst (AllFrom number) (sym some.offers) (to_each number (message_of now some.publish) some.slots))
               (λ (nothing : offered calls.supply_calls ≡ []). subst (AllFrom number) (sym nothing) tt)
               calls.offers;
         }

@@ -5,6 +5,8 @@ use Rattle.mqtt_packet.specs.declared.packet.Packet.{Packet}
 use Rattle.mqtt_packet.specs.declared.packet.Packet.TheVariants as packets
 use Rattle.mqtt_packet.specs.declared.packet.Puback.{Puback}
 use Rattle.mqtt_packet.specs.declared.packet.Publish.{Publish}
+use Rattle.users.specs.Table.{Rights}
+use Rattle.users.specs.Rights.{may_publish}
 use Rattle.group_jobs.specs.declared.fate.Fate.{Fate}
 use Rattle.group_jobs.specs.declared.message.Message.{Message}
 use Rattle.group_jobs.specs.Stamps.{Held}
@@ -32,7 +34,7 @@ use Rattle.conn_supply.specs.declared.reply.Reply.{Reply}
 use Rattle.conn_supply.specs.SupplyCalls.{SupplyCall}
 use Rattle.conn_supply.specs.SupplyCalls.SupplyCall.{Settle}
 use Rattle.conn_supply.specs.Acknowledging.{Settles, AcknowledgesFor}
-use Rattle.conn_supply.specs.Publishing.{Offers, AnswersPublish}
+use Rattle.conn_supply.specs.Publishing.{AnswersPublish, Offers, OffersIf}
 use Rattle.conn_engine.specs.declared.input.Input.{Input}
 use Rattle.conn_engine.specs.declared.input.Input.TheVariants as inputs
 use Rattle.conn_engine.specs.declared.phase.ConnectedClient.{ConnectedClient}
@@ -173,10 +175,15 @@ module _ {S P : Type 0} (call : S → SupplyCall P → S → Type 0) where
   offered (slot ∷ slots) old new number message taken offers =
       apart_behind call old offers.1 new (apart_one call old offers.1 _ offers.4 tt refl refl) (offered slots offers.1 new number message offers.3 offers.6)
 
-  published : (answer : PublishAnswer) (old new : S) (number now : ℕ) (publish : Publish) (reply : Reply) → AnswersPublish call old number now publish answer reply new → Apart call old new
-  published (answers.Close code) old new number now publish reply does = still call old new does.1
-  published (answers.Offer identifier) old new number now publish reply does =
+  offered_if : (allowed : Bool) (identifier : ℕ) (old new : S) (number now : ℕ) (publish : Publish) (reply : Reply) → OffersIf call allowed old number now publish identifier reply new → Apart call old new
+  offered_if true identifier old new number now publish reply does =
       apart_behind call old does.mid new (apart_one call old does.mid _ does.matched tt refl refl) (offered does.slots does.mid new number (message_of now publish) does.taken does.offered)
+  offered_if false identifier old new number now publish reply does = still call old new does.1
+
+  published : (rights : Rights) (answer : PublishAnswer) (old new : S) (number now : ℕ) (publish : Publish) (reply : Reply) → AnswersPublish call rights old number now publish answer reply new
+      → Apart call old new
+  published rights (answers.Close code) old new number now publish reply does = still call old new does.1
+  published rights (answers.Offer identifier) old new number now publish reply does = offered_if (may_publish rights publish.topic) identifier old new number now publish reply does
 
   disconnected_if : (given : Bool) (old new : S) (connected after : ConnectedClient P) (seconds : ℕ) (reply : Reply) → DisconnectsIf given connected seconds after reply → new ≡ old → Kept old connected.session after new
   disconnected_if true old new connected after seconds reply does same = kept old new connected.session after _ does.0 refl refl (still call old new same)
@@ -194,7 +201,7 @@ module _ {S P : Type 0} (call : S → SupplyCall P → S → Type 0) where
     answered : (packet : Packet) (old new : S) (number now : ℕ) (connected after : ConnectedClient P) (reply : Reply) → Answers call slot_of old number (hearing connected now) now packet after reply new
         → (Kept old connected.session after new × NoneConfirmed connected packet) ⊎ SettlesBy old connected packet after reply new
     answered (packets.Publish publish) old new number now connected after reply is =
-        inl (kept old new connected.session after _ is.1 refl refl (published (publish_answer publish) old new number now publish reply is.0), λ e f c. c)
+        inl (kept old new connected.session after _ is.1 refl refl (published connected.rights (publish_answer publish) old new number now publish reply is.0), λ e f c. c)
     answered (packets.Puback puback) old new number now connected after reply is =
         ⊎_elim
         (λ (keeps : Kept old connected.session after new × NoneConfirmed connected (packets.Puback puback)). inl keeps)
@@ -205,7 +212,7 @@ module _ {S P : Type 0} (call : S → SupplyCall P → S → Type 0) where
     answered (packets.Subscribe subscribe) old new number now connected after reply is =
         inl (
           kept old new connected.session after _ is.3 refl refl
-              (apart call old new (asides.subscribed_as call slot_of (subscribe_refusal subscribe) old new connected.session.membership connected.session.subscription subscribe reply is.0 is.1 is.2)),
+              (apart call old new (asides.subscribed_as call slot_of connected.rights (subscribe_refusal subscribe) old new connected.session.membership connected.session.subscription subscribe reply is.0 is.1 is.2)),
           λ e f c. c,
         )
     answered (packets.Unsubscribe unsubscribe) old new number now connected after reply is =

@@ -5,6 +5,8 @@ use Rattle.std.specs.Option.{option_to_list}
 use Rattle.mqtt_packet.specs.declared.packet.Packet.{Packet}
 use Rattle.mqtt_packet.specs.declared.packet.Packet.TheVariants as packets
 use Rattle.mqtt_packet.specs.declared.packet.ConnectRefusal.{ConnectRefusal}
+use Rattle.users.specs.Table.{Rights}
+use Rattle.users.specs.Rights.{may_publish}
 use Rattle.group_jobs.specs.Stamps.{Held}
 use Rattle.session_desk.specs.declared.attached.Attached.{Attached}
 use Rattle.session_desk.specs.declared.attached.Attached.TheVariants.{New, Resumed, Replace, Busy}
@@ -26,7 +28,7 @@ use Rattle.mqtt_packet.specs.declared.packet.Subscribe.{Subscribe}
 use Rattle.mqtt_packet.specs.declared.packet.Unsubscribe.{Unsubscribe}
 use Rattle.conn_supply.specs.declared.reply.Reply.{Reply}
 use Rattle.conn_supply.specs.SupplyCalls.{SupplyCall}
-use Rattle.conn_supply.specs.Publishing.{AnswersPublish}
+use Rattle.conn_supply.specs.Publishing.{AnswersPublish, OffersIf}
 use Rattle.conn_supply.specs.Subscribing.{SubscribesAs, UnsubscribesAs}
 use Rattle.conn_engine.specs.declared.input.Input.{Input}
 use Rattle.conn_engine.specs.declared.input.Input.TheVariants as inputs
@@ -110,14 +112,19 @@ module _ {S P : Type 0} (call : S → SupplyCall P → S → Type 0) (slot_of : 
   answers_first first.Attach old new number limits now packet phase reply is = attached is.2.answer is.2.mid new _ 0 phase reply is.2.answered
 
   -- what a connection with its session answers
-  published : (answer : PublishAnswer) (old new : S) (number now : ℕ) (publish : Publish) (reply : Reply) → AnswersPublish call old number now publish answer reply new → BringsNone reply
-  published (answers.Close code) old new number now publish reply is = told reply _ is.0 refl
-  published (answers.Offer identifier) old new number now publish reply is = told reply _ is.replied refl
+  offered_if : (allowed : Bool) (identifier : ℕ) (old new : S) (number now : ℕ) (publish : Publish) (reply : Reply) → OffersIf call allowed old number now publish identifier reply new → BringsNone reply
+  offered_if true identifier old new number now publish reply is = told reply _ is.replied refl
+  offered_if false identifier old new number now publish reply is = told reply _ is.0 refl
 
-  subscribed : (refusal : Option ℕ) (old new : S) (membership membership' : Membership P) (subscription subscription' : Option ℕ) (subscribe : Subscribe) (reply : Reply)
-      → SubscribesAs call slot_of refusal old membership subscription subscribe reply membership' subscription' new → BringsNone reply
-  subscribed (Some code) old new membership membership' subscription subscription' subscribe reply is = told reply _ is.0 refl
-  subscribed None old new membership membership' subscription subscription' subscribe reply is = told reply _ is.1 refl
+  published : (rights : Rights) (answer : PublishAnswer) (old new : S) (number now : ℕ) (publish : Publish) (reply : Reply) → AnswersPublish call rights old number now publish answer reply new
+      → BringsNone reply
+  published rights (answers.Close code) old new number now publish reply is = told reply _ is.0 refl
+  published rights (answers.Offer identifier) old new number now publish reply is = offered_if (may_publish rights publish.topic) identifier old new number now publish reply is
+
+  subscribed : (rights : Rights) (refusal : Option ℕ) (old new : S) (membership membership' : Membership P) (subscription subscription' : Option ℕ) (subscribe : Subscribe) (reply : Reply)
+      → SubscribesAs call slot_of refusal rights old membership subscription subscribe reply membership' subscription' new → BringsNone reply
+  subscribed rights (Some code) old new membership membership' subscription subscription' subscribe reply is = told reply _ is.0 refl
+  subscribed rights None old new membership membership' subscription subscription' subscribe reply is = told reply _ is.1 refl
 
   unsubscribed : (refusal : Option ℕ) (old new : S) (membership membership' : Membership P) (unsubscribe : Unsubscribe) (reply : Reply)
       → UnsubscribesAs call slot_of refusal old membership unsubscribe reply membership' new → BringsNone reply
@@ -125,10 +132,10 @@ module _ {S P : Type 0} (call : S → SupplyCall P → S → Type 0) (slot_of : 
   unsubscribed None old new membership membership' unsubscribe reply is = told reply _ is.1 refl
 
   answered : (packet : Packet) (old new : S) (number now : ℕ) (connected after : ConnectedClient P) (reply : Reply) → Answers call slot_of old number connected now packet after reply new → BringsNone reply
-  answered (packets.Publish publish) old new number now connected after reply is = published (publish_answer publish) old new number now publish reply is.0
+  answered (packets.Publish publish) old new number now connected after reply is = published connected.rights (publish_answer publish) old new number now publish reply is.0
   answered (packets.Puback puback) old new number now connected after reply is = told reply _ is.3 refl
   answered (packets.Subscribe subscribe) old new number now connected after reply is =
-      subscribed (subscribe_refusal subscribe) old new connected.session.membership is.0 connected.session.subscription is.1 subscribe reply is.2
+      subscribed connected.rights (subscribe_refusal subscribe) old new connected.session.membership is.0 connected.session.subscription is.1 subscribe reply is.2
   answered (packets.Unsubscribe unsubscribe) old new number now connected after reply is =
       unsubscribed (unsubscribe_refusal unsubscribe) old new connected.session.membership is.0 unsubscribe reply is.1
   answered packets.Pingreq old new number now connected after reply is = told reply _ is.1 refl

@@ -86,10 +86,10 @@ module _ {S P : Type 0} (call : S → SupplyCall P → S → Type 0) where
 
     failed_to_answer : (packet : Packet) (old new : S) (number now : ℕ) (connected connected' : ConnectedClient P) → FailsToAnswer call slot_of old number (hearing connected now) now packet connected' new
         → CallsReturnedFirst call old new
-    failed_to_answer (packets.Publish publish) old new number now connected connected' fails = cut_short old new number now publish fails.0
+    failed_to_answer (packets.Publish publish) old new number now connected connected' fails = cut_short old new number now publish fails.0.0
     failed_to_answer (packets.Subscribe subscribe) old new number now connected connected' fails =
         plain call old new
-        (some_answered call slot_of old new subscribe.subscriptions connected.session.membership fails.0 fails.1)
+        (some_answered call slot_of connected.rights old new subscribe.subscriptions connected.session.membership fails.0 fails.1)
     failed_to_answer (packets.Unsubscribe unsubscribe) old new number now connected connected' fails = none call old new fails.1
     failed_to_answer other old new number now connected connected' fails = absurd fails
 

@@ -11,6 +11,8 @@ use Rattle.mqtt_packet.specs.declared.packet.Publish.{Publish}
 use Rattle.mqtt_packet.specs.declared.packet.Subscribe.{Subscribe}
 use Rattle.mqtt_packet.specs.declared.packet.Subscription.{Subscription}
 use Rattle.mqtt_packet.specs.declared.packet.Unsubscribe.{Unsubscribe}
+use Rattle.users.specs.Table.{Rights}
+use Rattle.users.specs.Rights.{may_publish}
 use Rattle.group_jobs.specs.Stamps.{Held}
 use Rattle.member_window.specs.Contents.{Contents, after_resend}
 use Rattle.session_desk.specs.Sessions.{Who}
@@ -40,7 +42,7 @@ use Rattle.conn_rules.specs.declared.hand_outs.HandOutTerms.{HandOutTerms}
 use Rattle.conn_supply.specs.SupplyCalls.{SupplyCall}
 use Rattle.conn_supply.specs.SupplyCalls.SupplyCall.{Attach}
 use Rattle.conn_supply.specs.HandOuts.{SendsAgain, SendsFresh, HandsFresh}
-use Rattle.conn_supply.specs.Publishing.{AnswersPublish}
+use Rattle.conn_supply.specs.Publishing.{AnswersPublish, OffersIf}
 use Rattle.conn_supply.specs.Subscribing.{AnswersEntries, LeavesByAll, SubscribesAs, UnsubscribesAs}
 use Rattle.conn_engine.specs.declared.input.Input.{Input}
 use Rattle.conn_engine.specs.declared.input.Input.TheVariants as inputs
@@ -221,16 +223,21 @@ module _ {S P : Type 0} (call : S → SupplyCall P → S → Type 0) (slot_of : 
 
   -- ---- a connection with its session
 
-  published : (answer : PublishAnswer) (old new : S) (number now : ℕ) (publish : Publish) (reply : Reply) → AnswersPublish call old number now publish answer reply new → IsBrief reply
-  published (answers.Close code) old new number now publish reply is = closing reply _ code is.0 refl
-  published (answers.Offer identifier) old new number now publish reply is = told reply _ is.replied (one _ (acknowledged_is_small identifier _))
+  offered_if : (allowed : Bool) (identifier : ℕ) (old new : S) (number now : ℕ) (publish : Publish) (reply : Reply) → OffersIf call allowed old number now publish identifier reply new → IsBrief reply
+  offered_if true identifier old new number now publish reply is = told reply _ is.replied (one _ (acknowledged_is_small identifier _))
+  offered_if false identifier old new number now publish reply is = told reply _ is.0 (one _ (acknowledged_is_small identifier _))
+
+  published : (rights : Rights) (answer : PublishAnswer) (old new : S) (number now : ℕ) (publish : Publish) (reply : Reply) → AnswersPublish call rights old number now publish answer reply new
+      → IsBrief reply
+  published rights (answers.Close code) old new number now publish reply is = closing reply _ code is.0 refl
+  published rights (answers.Offer identifier) old new number now publish reply is = offered_if (may_publish rights publish.topic) identifier old new number now publish reply is
 
   -- there is a code for each entry
-  codes_for : (entries : List Subscription) (codes : List ℕ) (old new : S) (membership membership' : Membership P)
-      → AnswersEntries call slot_of old membership entries codes membership' new → length codes ≡ length entries
-  codes_for [] codes old new membership membership' is = ap length is.0
-  codes_for (entry ∷ entries) codes old new membership membership' is =
-      ap length is.6 ∙ ap suc (codes_for entries is.1 is.3 new is.2 membership' is.5)
+  codes_for : (rights : Rights) (entries : List Subscription) (codes : List ℕ) (old new : S) (membership membership' : Membership P)
+      → AnswersEntries call slot_of rights old membership entries codes membership' new → length codes ≡ length entries
+  codes_for rights [] codes old new membership membership' is = ap length is.0
+  codes_for rights (entry ∷ entries) codes old new membership membership' is =
+      ap length is.6 ∙ ap suc (codes_for rights entries is.1 is.3 new is.2 membership' is.5)
 
   codes_for_filters : (texts : List (List ℕ)) (codes : List ℕ) (old new : S) (membership membership' : Membership P)
       → LeavesByAll call slot_of old membership texts codes membership' new → length codes ≡ length texts
@@ -238,11 +245,11 @@ module _ {S P : Type 0} (call : S → SupplyCall P → S → Type 0) (slot_of : 
   codes_for_filters (text ∷ texts) codes old new membership membership' is =
       ap length is.6 ∙ ap suc (codes_for_filters texts is.1 is.3 new is.2 membership' is.5)
 
-  subscribed : (refusal : Option ℕ) (old new : S) (membership membership' : Membership P) (subscription subscription' : Option ℕ) (subscribe : Subscribe) (reply : Reply)
-      → subscribe_refusal subscribe ≡ refusal → SubscribesAs call slot_of refusal old membership subscription subscribe reply membership' subscription' new → IsBrief reply
-  subscribed (Some code) old new membership membership' subscription subscription' subscribe reply found is = closing reply _ code is.0 refl
-  subscribed None old new membership membership' subscription subscription' subscribe reply found is =
-      let few : length is.0 ≤ most_entries = omega (arith, few_subscriptions subscribe found, codes_for subscribe.subscriptions is.0 old new membership membership' is.2) in
+  subscribed : (rights : Rights) (refusal : Option ℕ) (old new : S) (membership membership' : Membership P) (subscription subscription' : Option ℕ) (subscribe : Subscribe) (reply : Reply)
+      → subscribe_refusal subscribe ≡ refusal → SubscribesAs call slot_of refusal rights old membership subscription subscribe reply membership' subscription' new → IsBrief reply
+  subscribed rights (Some code) old new membership membership' subscription subscription' subscribe reply found is = closing reply _ code is.0 refl
+  subscribed rights None old new membership membership' subscription subscription' subscribe reply found is =
+      let few : length is.0 ≤ most_entries = omega (arith, few_subscriptions subscribe found, codes_for rights subscribe.subscriptions is.0 old new membership membership' is.2) in
       told reply _ is.1 (one _ (subscribed_is_small subscribe.packet_identifier is.0 few))
 
   unsubscribed : (refusal : Option ℕ) (old new : S) (membership membership' : Membership P) (unsubscribe : Unsubscribe) (reply : Reply)
@@ -253,10 +260,10 @@ module _ {S P : Type 0} (call : S → SupplyCall P → S → Type 0) (slot_of : 
       told reply _ is.1 (one _ (unsubscribed_is_small unsubscribe.packet_identifier is.0 few))
 
   answered : (packet : Packet) (old new : S) (number now : ℕ) (connected after : ConnectedClient P) (reply : Reply) → Answers call slot_of old number connected now packet after reply new → IsBrief reply
-  answered (packets.Publish publish) old new number now connected after reply is = published (publish_answer publish) old new number now publish reply is.0
+  answered (packets.Publish publish) old new number now connected after reply is = published connected.rights (publish_answer publish) old new number now publish reply is.0
   answered (packets.Puback puback) old new number now connected after reply is = told reply _ is.3 tt
   answered (packets.Subscribe subscribe) old new number now connected after reply is =
-      subscribed (subscribe_refusal subscribe) old new connected.session.membership is.0 connected.session.subscription is.1 subscribe reply refl is.2
+      subscribed connected.rights (subscribe_refusal subscribe) old new connected.session.membership is.0 connected.session.subscription is.1 subscribe reply refl is.2
   answered (packets.Unsubscribe unsubscribe) old new number now connected after reply is =
       unsubscribed (unsubscribe_refusal unsubscribe) old new connected.session.membership is.0 unsubscribe reply refl is.1
   answered packets.Pingreq old new number now connected after reply is = told reply _ is.1 (one _ answered_is_small)

@@ -7,6 +7,7 @@ use Rattle.mqtt_packet.specs.declared.packet.Packet.{Packet}
 use Rattle.mqtt_packet.specs.declared.packet.Packet.TheVariants as packets
 use Rattle.mqtt_packet.specs.declared.packet.Publish.{Publish}
 use Rattle.mqtt_packet.specs.declared.packet.Puback.{Puback}
+use Rattle.users.specs.Rights.{may_publish}
 use Rattle.group_jobs.specs.declared.fate.Fate.{Fate}
 use Rattle.group_jobs.specs.declared.message.Message.{Message}
 use Rattle.group_jobs.specs.Stamps.{Held}
@@ -42,7 +43,7 @@ use Rattle.conn_engine.specs.declared.phase.ConnPhase.TheVariants.{Unconnected, 
 use Rattle.conn_engine.specs.Answering.{DisconnectsIf, Disconnects, Answers}
 use Rattle.conn_laws.specs.Places.{has_place, own_places, IsMemberWith, KeepsPlaces, KeepsInTurn}
 use Rattle.conn_laws.specs.Calls.{offer_of, match_of, settlement_of, hand_out_of, offered, matched, settled, handed, Outcome, hand_outs_of, sent_of, discards_of, AreSentIfFit, contents_of, fresh_contents, IsToBeOffered, Brings, Confirms, OffersToEach, OffersNone, SettlesOne, SettlesNone, AsksForMessage, HandsOutLast, MakesAll, StepCalls}
-use Rattle.conn_supply.specs.Publishing.{Offers, AnswersPublish}
+use Rattle.conn_supply.specs.Publishing.{AnswersPublish, Offers, OffersIf}
 use Rattle.conn_engine.specs.Step.{hearing, hand_out_terms, IsRefusedIf, WaitsForConnect, AnswersFirst, Concludes, AnswersPacket, AnswersTick, IsHeard, IsKicked, AnswersUnlessKicked, Reacts, Hands, Steps}
 use Rattle.conn_laws.proofs.Replying.{replied_and_sent}
 use Rattle.conn_laws.proofs.KeptPlaces.{kept_by_none, kept_by_one, kept_by_both, kept_beside}
@@ -66,7 +67,7 @@ module _ {S P : Type 0} (call : S → SupplyCall P → S → Type 0) where
   pub record Walked (given : List (P × Held)) (discards : List (Held × Fate)) (old : S) (number now : ℕ) (phase : ConnPhase P) (input : Input) (next : Then) (after : List P) (new : S) : Type 0 where
     pub supply_calls : List (SupplyCall P)
     pub made : MakesAll call old supply_calls new
-    pub offers : OffersToEach number now input supply_calls ⊎ OffersNone phase input supply_calls next
+    pub offers : OffersToEach number now phase input supply_calls ⊎ OffersNone phase input supply_calls next
     pub settles : SettlesOne phase input supply_calls discards ⊎ SettlesNone phase input supply_calls next discards
     pub hands : handed supply_calls ≡ given
     pub places : KeepsPlaces (own_places phase) supply_calls after
@@ -131,12 +132,13 @@ module _ {S P : Type 0} (call : S → SupplyCall P → S → Type 0) where
 
   -- calls that offer and settle the same
   pub offers_alike : (number now : ℕ) (phase : ConnPhase P) (input : Input) (next : Then) (supply_calls all : List (SupplyCall P)) → matched all ≡ matched supply_calls → offered all ≡ offered supply_calls
-      → OffersToEach number now input supply_calls ⊎ OffersNone phase input supply_calls next → OffersToEach number now input all ⊎ OffersNone phase input all next
+      → OffersToEach number now phase input supply_calls ⊎ OffersNone phase input supply_calls next → OffersToEach number now phase input all ⊎ OffersNone phase input all next
   offers_alike number now phase input next supply_calls all same_matches same_offers (inl each) =
       inl (record {
         publish = each.publish;
         came = each.came;
         accepted = each.accepted;
+        allowed = each.allowed;
         slots = each.slots;
         match = same_matches ∙ each.match;
         offers = same_offers ∙ each.offers;
@@ -211,11 +213,13 @@ module _ {S P : Type 0} (call : S → SupplyCall P → S → Type 0) where
         places = kept_by_both [] [] [] (first ∷ []) rest.supply_calls (kept_by_one first) rest.places;
       }
 
-  published : (answer : PublishAnswer) (old new : S) (number now : ℕ) (connected : ConnectedClient P) (publish : Publish) (reply : Reply) → publish_answer publish ≡ answer
-      → AnswersPublish call old number now publish answer reply new → Walked [] [] old number now (Connected connected) (inputs.Packet (packets.Publish publish)) reply.next (own_places (Connected connected)) new
-  published (answers.Close code) old new number now connected publish reply is answers =
-      plain old new number now (Connected connected) _ reply.next (still call old new refl answers.1) (λ brought brings. absurd (subst IsToBeOffered is brings.1)) (λ envelope fate confirms. absurd confirms)
-  published (answers.Offer identifier) old new number now connected publish reply is offers =
+  -- a message is offered where the client may publish to its topic
+  offered_if : (allowed : Bool) (identifier : ℕ) (old new : S) (number now : ℕ) (connected : ConnectedClient P) (publish : Publish) (reply : Reply) → publish_answer publish ≡ answers.Offer identifier
+      → may_publish connected.rights publish.topic ≡ allowed → OffersIf call allowed old number now publish identifier reply new
+      → Walked [] [] old number now (Connected connected) (inputs.Packet (packets.Publish publish)) reply.next (own_places (Connected connected)) new
+  offered_if false identifier old new number now connected publish reply is allowed answers =
+      plain old new number now (Connected connected) _ reply.next (still call old new refl answers.1) (λ brought brings. absurd (cc (brings.2, allowed))) (λ envelope fate confirms. absurd confirms)
+  offered_if true identifier old new number now connected publish reply is allowed offers =
       let to = offers_to offers.slots offers.mid new number (message_of now publish) offers.taken offers.offered in
       let first : SupplyCall P = Match publish.topic offers.slots in
       record {
@@ -225,6 +229,7 @@ module _ {S P : Type 0} (call : S → SupplyCall P → S → Type 0) where
           publish = publish;
           came = refl;
           accepted = subst IsToBeOffered (sym is) tt;
+          allowed = allowed;
           slots = offers.slots;
           match = ap (λ others. (publish.topic, offers.slots) ∷ others) to.match;
           offers = to.offers;
@@ -233,6 +238,13 @@ module _ {S P : Type 0} (call : S → SupplyCall P → S → Type 0) where
         hands = to.hands;
         places = kept_beside (own_places (Connected connected)) [] [] (first ∷ to.supply_calls) (kept_by_both [] [] [] (first ∷ []) to.supply_calls (kept_by_one first) to.places);
       }
+
+  published : (answer : PublishAnswer) (old new : S) (number now : ℕ) (connected : ConnectedClient P) (publish : Publish) (reply : Reply) → publish_answer publish ≡ answer
+      → AnswersPublish call connected.rights old number now publish answer reply new → Walked [] [] old number now (Connected connected) (inputs.Packet (packets.Publish publish)) reply.next (own_places (Connected connected)) new
+  published (answers.Close code) old new number now connected publish reply is answers =
+      plain old new number now (Connected connected) _ reply.next (still call old new refl answers.1) (λ brought brings. absurd (subst IsToBeOffered is brings.1)) (λ envelope fate confirms. absurd confirms)
+  published (answers.Offer identifier) old new number now connected publish reply is offers =
+      offered_if (may_publish connected.rights publish.topic) identifier old new number now connected publish reply is refl offers
 
   -- a PUBACK for what the session holds, and any other
   settled_as : (found : Option Held) (old new : S) (number now : ℕ) (connected : ConnectedClient P) (puback : Puback) (place place' : P) (window' : Contents Held) (next : Then)
@@ -295,7 +307,7 @@ module _ {S P : Type 0} (call : S → SupplyCall P → S → Type 0) where
     answered (packets.Subscribe subscribe) old new number now connected after reply answers =
         idle old new number now (Connected connected) _ reply.next
         (becomes call (alike after _ answers.3)
-        (subscribed_as call slot_of (subscribe_refusal subscribe) old new connected.session.membership connected.session.subscription subscribe reply answers.0 answers.1 answers.2))
+        (subscribed_as call slot_of connected.rights (subscribe_refusal subscribe) old new connected.session.membership connected.session.subscription subscribe reply answers.0 answers.1 answers.2))
         (λ p b. b, λ e f c. c)
     answered (packets.Unsubscribe unsubscribe) old new number now connected after reply answers =
         idle old new number now (Connected connected) _ reply.next

@@ -4,6 +4,7 @@ use Rattle.std.specs.Prelude.{option_to_list}
 use Rattle.mqtt_packet.specs.declared.packet.Packet.{Packet}
 use Rattle.mqtt_packet.specs.declared.packet.Packet.TheVariants as packets
 use Rattle.mqtt_packet.specs.declared.packet.Subscribe.{Subscribe}
+use Rattle.users.specs.Table.{Rights}
 use Rattle.group_jobs.specs.Stamps.{Held}
 use Rattle.session_desk.specs.declared.session.Session.{Session}
 use Rattle.session_desk.specs.declared.session.Membership.{Membership}
@@ -46,12 +47,12 @@ module _ {S P : Type 0} (call : S → SupplyCall P → S → Type 0) (slot_of : 
   disconnects (Some seconds) connected connected' reply does = disconnects_if _ connected connected' seconds reply does
 
   -- a SUBSCRIBE closes the connection, or its codes tell
-  subscribed : (refused : Option ℕ) (old new : S) (connected connected' : ConnectedClient P) (membership : Membership P) (subscription : Option ℕ) (subscribe : Subscribe) (reply : Reply)
-      → SubscribesAs call slot_of refused old connected.session.membership connected.session.subscription subscribe reply membership subscription new
+  subscribed : (rights : Rights) (refused : Option ℕ) (old new : S) (connected connected' : ConnectedClient P) (membership : Membership P) (subscription : Option ℕ) (subscribe : Subscribe) (reply : Reply)
+      → SubscribesAs call slot_of refused rights old connected.session.membership connected.session.subscription subscribe reply membership subscription new
       → connected' ≡ subscribing connected membership subscription
       → IdentifiesBy (Some subscribe) (option_to_list reply.packet) connected.session.subscription connected'.session.subscription ⊎ (reply.next ≡ Close)
-  subscribed (Some code) old new connected connected' membership subscription subscribe reply does is = inr (ap (λ (r : Reply). r.next) does.0)
-  subscribed None old new connected connected' membership subscription subscribe reply does is =
+  subscribed rights (Some code) old new connected connected' membership subscription subscribe reply does is = inr (ap (λ (r : Reply). r.next) does.0)
+  subscribed rights None old new connected connected' membership subscription subscribe reply does is =
       inl (does.0, [], ap (λ (r : Reply). option_to_list r.packet) does.1, ap (λ (l : ConnectedClient P). l.session.subscription) is ∙ does.3)
 
   answered : (packet : Packet) (old new : S) (number now : ℕ) (connected connected' : ConnectedClient P) (reply : Reply) → Answers call slot_of old number connected now packet connected' reply new
@@ -60,7 +61,7 @@ module _ {S P : Type 0} (call : S → SupplyCall P → S → Type 0) (slot_of : 
   answered (packets.Puback puback) old new number now connected connected' reply answers =
       inl (ap (λ (l : ConnectedClient P). l.session.subscription) answers.2 ∙ ap (λ (s : Session Held P). s.subscription) answers.1.same)
   answered (packets.Subscribe subscribe) old new number now connected connected' reply answers =
-      subscribed (subscribe_refusal subscribe) old new connected connected' answers.0 answers.1 subscribe reply answers.2 answers.3
+      subscribed connected.rights (subscribe_refusal subscribe) old new connected connected' answers.0 answers.1 subscribe reply answers.2 answers.3
   answered (packets.Unsubscribe unsubscribe) old new number now connected connected' reply answers = inl (ap (λ (l : ConnectedClient P). l.session.subscription) answers.2)
   answered packets.Pingreq old new number now connected connected' reply answers = inl (same connected connected' answers.0)
   answered (packets.Disconnect disconnect) old new number now connected connected' reply answers = inl (disconnects disconnect.properties.session_expiry_interval connected connected' reply answers.0)

@@ -5,6 +5,7 @@ use Rattle.mqtt_packet.specs.declared.packet.Packet.{Packet}
 use Rattle.mqtt_packet.specs.declared.packet.Packet.TheVariants as packets
 use Rattle.mqtt_packet.specs.declared.packet.Publish.{Publish}
 use Rattle.mqtt_packet.specs.declared.packet_properties.PublishProperties.{PublishProperties}
+use Rattle.users.specs.Rights.{may_publish}
 use Rattle.group_jobs.specs.declared.fate.Fate.{Fate}
 use Rattle.group_jobs.specs.declared.fate.Fate.TheVariants.{Discarded}
 use Rattle.group_jobs.specs.declared.message.Message.{Message}
@@ -130,9 +131,15 @@ abbrev pub IsToBeOffered : PublishAnswer → Type 0
 IsToBeOffered (answers.Close code) = ⊥
 IsToBeOffered (answers.Offer identifier) = ⊤
 
--- a connection is given a PUBLISH whose message is to be offered
+-- the client of a connection may publish to the topic of this PUBLISH
+abbrev pub is_allowed : {P : Type 0} → ConnPhase P → Publish → Bool
+is_allowed (Connected connected) publish = may_publish connected.rights publish.topic
+is_allowed phase publish = false
+
+-- a connection is given a PUBLISH whose message is to be offered, and to whose topic its client may publish
 abbrev pub Brings : {P : Type 0} → ConnPhase P → Input → Publish → Type 0
-Brings (Connected connected) (inputs.Packet (packets.Publish publish)) brought = (brought ≡ publish) × IsToBeOffered (publish_answer publish)
+Brings (Connected connected) (inputs.Packet (packets.Publish publish)) brought =
+    (brought ≡ publish) × IsToBeOffered (publish_answer publish) × (may_publish connected.rights publish.topic ≡ true)
 Brings phase input brought = ⊥
 
 -- a connection is given a PUBACK for this message, which its session holds, and which has this fate then
@@ -143,10 +150,11 @@ Confirms (Connected connected) (inputs.Packet (packets.Puback puback)) envelope 
 Confirms phase input envelope fate = ⊥
 
 -- the calls of a step in which a message was brought at this moment: it is offered once to each group that the one match answers, in their order
-pub record OffersToEach {P : Type 0} (number now : ℕ) (input : Input) (supply_calls : List (SupplyCall P)) : Type 0 where
+pub record OffersToEach {P : Type 0} (number now : ℕ) (phase : ConnPhase P) (input : Input) (supply_calls : List (SupplyCall P)) : Type 0 where
   pub publish : Publish
   pub came : input ≡ inputs.Packet (packets.Publish publish)
   pub accepted : IsToBeOffered (publish_answer publish)
+  pub allowed : is_allowed phase publish ≡ true
   pub slots : List ℕ
   pub match : matched supply_calls ≡ (publish.topic, slots) ∷ []
   pub offers : offered supply_calls ≡ map (λ slot. (slot, number, message_of now publish)) slots
@@ -170,9 +178,10 @@ pub record SettlesNone {P : Type 0} (phase : ConnPhase P) (input : Input) (suppl
   pub unless : (envelope : Held) (fate : Fate) → Confirms phase input envelope fate → next ≡ thens.Kicked
 
 -- the calls of a step in which an allocation failed for a PUBLISH: its message was offered once to some of the groups, from the first on
-pub record OffersToSome {P : Type 0} (number now : ℕ) (input : Input) (supply_calls : List (SupplyCall P)) : Type 0 where
+pub record OffersToSome {P : Type 0} (number now : ℕ) (phase : ConnPhase P) (input : Input) (supply_calls : List (SupplyCall P)) : Type 0 where
   pub publish : Publish
   pub came : input ≡ inputs.Packet (packets.Publish publish)
+  pub allowed : is_allowed phase publish ≡ true
   pub slots : List ℕ
   pub others : List ℕ
   pub match : matched supply_calls ≡ (publish.topic, slots ++ others) ∷ []
@@ -214,7 +223,7 @@ module _ {S P : Type 0} (call : S → SupplyCall P → S → Type 0) where
   pub record StepCalls (old : S) (number : ℕ) (phase : ConnPhase P) (now : ℕ) (input : Input) (sent : List Packet) (next : Then) (phase' : ConnPhase P) (new : S) : Type 0 where
     pub supply_calls : List (SupplyCall P)
     pub made : MakesAll old supply_calls new
-    pub offers : OffersToEach number now input supply_calls ⊎ OffersNone phase input supply_calls next
+    pub offers : OffersToEach number now phase input supply_calls ⊎ OffersNone phase input supply_calls next
     -- what becomes of each hand-out
     pub outcomes : List (Outcome P)
     pub handed_out : handed supply_calls ≡ hand_outs_of outcomes
@@ -231,7 +240,7 @@ module _ {S P : Type 0} (call : S → SupplyCall P → S → Type 0) where
   pub record FailedCalls (old : S) (number : ℕ) (phase : ConnPhase P) (now : ℕ) (input : Input) (new : S) : Type 0 where
     pub supply_calls : List (SupplyCall P)
     pub made : MakesAll old supply_calls new
-    pub offers : OffersToSome number now input supply_calls ⊎ (offered supply_calls ≡ [])
+    pub offers : OffersToSome number now phase input supply_calls ⊎ (offered supply_calls ≡ [])
     -- of what is handed out, some is discarded, and the rest is held
     pub outcomes : List (Outcome P)
     pub handed_out : handed supply_calls ≡ hand_outs_of outcomes

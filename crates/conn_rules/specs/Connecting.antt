@@ -3,10 +3,12 @@ use Rattle.std.specs.Prelude.{ℕ, ◌==◌, ◌&&◌, ◌||◌, nat_lt, min, Bo
 use Rattle.mqtt_packet.specs.declared.offer.Offer.{Offer}
 use Rattle.mqtt_packet.specs.declared.packet.QoS.TheVariants.{AtLeastOnce}
 use Rattle.mqtt_packet.specs.declared.packet.Connect.{Connect}
+use Rattle.mqtt_packet.specs.declared.packet.ConnectRefusal.{ConnectRefusal}
 use Rattle.mqtt_packet.specs.declared.packet.ConnectRefusal.TheVariants.{ImplementationSpecificError, UnsupportedProtocolVersion, ClientIdentifierNotValid, BadUserNameOrPassword, BadAuthenticationMethod}
 use Rattle.mqtt_packet.specs.declared.packet.Packet.{Packet}
 use Rattle.mqtt_packet.specs.declared.packet.Packet.TheVariants as packets
-use Rattle.users.specs.Table.{UserTable, admits}
+use Rattle.users.specs.Table.{Rights, UserTable, admits}
+use Rattle.users.specs.Rights.{all_rights, may_connect_as, rights_of}
 use Rattle.conn_rules.specs.declared.connecting.FirstAnswer.{FirstAnswer}
 use Rattle.conn_rules.specs.declared.connecting.FirstAnswer.TheVariants.{Close, Refuse, Attach}
 use Rattle.conn_rules.specs.declared.limits.ClientLimits.{ClientLimits}
@@ -76,21 +78,47 @@ admits_as users (Some name) (Some password) = admits users name password
 admits_as users (Some name) None = false
 admits_as users None password = false
 
--- a client is served: it is one of these users, where they are given
+-- a client is one of these users, where they are given
+abbrev pub is_known : Option UserTable → Connect → Bool
+is_known None c = true
+is_known (Some users) c = admits_as users c.user_name c.password
+
+abbrev pub may_connect_if : UserTable → Option (List ℕ) → List ℕ → Bool
+may_connect_if users None client = false
+may_connect_if users (Some name) client = may_connect_as users name client
+
+-- 3.1.3.1: its user may connect under its Client Identifier
+abbrev pub is_own_identifier : Option UserTable → Connect → Bool
+is_own_identifier None c = true
+is_own_identifier (Some users) c = may_connect_if users c.user_name c.client_identifier
+
+-- a client is served: it is one of these users, where they are given, under an identifier that is not another's
 abbrev pub is_served : Option UserTable → Connect → Bool
-is_served None c = true
-is_served (Some users) c = admits_as users c.user_name c.password
+is_served users c = is_known users c && is_own_identifier users c
+
+-- why a client is not: its identifier is not allowed (3.2.2.2), or it is none of the users
+abbrev pub unserved : Option UserTable → Connect → ConnectRefusal
+unserved users c = if is_known users c then ClientIdentifierNotValid else BadUserNameOrPassword
+
+abbrev pub rights_if : UserTable → Option (List ℕ) → Rights
+rights_if users None = all_rights
+rights_if users (Some name) = rights_of users name
+
+-- what a client may do: what its user may, where users are given
+abbrev pub client_rights : Option UserTable → Connect → Rights
+client_rights None c = all_rights
+client_rights (Some users) c = rights_if users c.user_name
 
 -- 3.1.2.11.4 and 3.1.4, of several refusals the first: a packet of less than 5 bytes holds no CONNACK; a client that takes less
--- than 64 is refused (profile), and so is any authentication method (4.12), an identifier of more than 128 bytes (3.1.3.1), and a client
--- that is none of the users, where they are given (3.1.4)
+-- than 64 is refused (profile), and so is any authentication method (4.12), an identifier of more than 128 bytes (3.1.3.1), and where users
+-- are given a client that is none of them (3.1.4), or whose identifier is not for it
 abbrev pub connect_answer : Option UserTable → Connect → FirstAnswer
 connect_answer users c =
     if is_under 5 c.properties.maximum_packet_size then Close
     else (if is_under 64 c.properties.maximum_packet_size then Refuse ImplementationSpecificError
     else (if is_some c.properties.authentication then Refuse BadAuthenticationMethod
     else (if nat_lt 128 (length c.client_identifier) then Refuse ClientIdentifierNotValid
-    else (if is_served users c then Attach else Refuse BadUserNameOrPassword))))
+    else (if is_served users c then Attach else Refuse (unserved users c)))))
 
 -- 3.1: the first packet is a CONNECT; another version is refused (3.1.2.2), and so is a will (profile)
 abbrev pub first_answer : Option UserTable → Packet → FirstAnswer

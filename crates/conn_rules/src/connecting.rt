@@ -1,10 +1,11 @@
 //! The answer to the first packet, as far as it asks no session (sections 3.1 and 3.2).
 ghost use Rattle.std.specs.Prelude.{◌≡◌};
-ghost use Rattle.conn_rules.specs.Connecting.{first_answer, connect_answer, is_served, offer};
+ghost use Rattle.conn_rules.specs.Connecting.{client_rights, connect_answer, first_answer, is_known, is_own_identifier, offer};
 
 use crate::limits::ClientLimits;
 use crate::terms::is_size_under;
 use mqtt_packet::{Connect, ConnectRefusal, MaximumPacketSize, Offer, Packet, QoS};
+use users::{ClientRights, SharedUsers};
 
 /// The longest client identifier, in bytes.
 const LONGEST_CLIENT_IDENTIFIER: usize = 128;
@@ -20,7 +21,8 @@ pub enum FirstAnswer {
     Attach,
 }
 
-/// What becomes of a connection at its first packet: a CONNECT of version 5 (section 3.1.2.2) without a will (profile) may open it. Where users are given, it is one of theirs.
+/// What becomes of a connection at its first packet: a CONNECT of version 5 (section 3.1.2.2) without a will (profile) may open it. Where users are given, it
+/// is one of theirs, under an identifier that is not another's.
 pub fn answer_to_first(limits: &ClientLimits, packet: &Packet) -> FirstAnswer
     ensures { result ≡ first_answer limits.now.users packet.now }
 {
@@ -49,15 +51,18 @@ pub fn answer_to_connect(limits: &ClientLimits, connect: &Connect) -> FirstAnswe
     if connect.client_identifier.as_bytes().len() > LONGEST_CLIENT_IDENTIFIER {
         return FirstAnswer::Refuse(ConnectRefusal::ClientIdentifierNotValid);
     }
-    if !is_served(limits, connect) {
+    if !is_known(limits, connect) {
         return FirstAnswer::Refuse(ConnectRefusal::BadUserNameOrPassword);
+    }
+    if !is_own_identifier(limits, connect) {
+        return FirstAnswer::Refuse(ConnectRefusal::ClientIdentifierNotValid);
     }
     FirstAnswer::Attach
 }
 
-/// Whether a client is served: where users are given, it has the name and the password of one (sections 3.1.3.5 and 3.1.3.6).
-fn is_served(limits: &ClientLimits, connect: &Connect) -> bool
-    ensures { result ≡ is_served limits.now.users connect.now }
+/// Whether a client is one of the users, where they are given: it has the name and the password of one (sections 3.1.3.5 and 3.1.3.6).
+fn is_known(limits: &ClientLimits, connect: &Connect) -> bool
+    ensures { result ≡ is_known limits.now.users connect.now }
 {
     let Some(users) = &limits.users else {
         return true;
@@ -65,6 +70,29 @@ fn is_served(limits: &ClientLimits, connect: &Connect) -> bool
     match (&connect.user_name, &connect.password) {
         (Some(name), Some(password)) => users.admits(name.as_bytes(), password.as_bytes()),
         _ => false,
+    }
+}
+
+/// Whether the user of a client may connect under its Client Identifier, where users are given (section 3.1.3.1).
+fn is_own_identifier(limits: &ClientLimits, connect: &Connect) -> bool
+    ensures { result ≡ is_own_identifier limits.now.users connect.now }
+{
+    match (&limits.users, &connect.user_name) {
+        (Some(users), Some(name)) => {
+            users.may_connect_as(name.as_bytes(), connect.client_identifier.as_bytes())
+        }
+        (Some(_), None) => false,
+        (None, _) => true,
+    }
+}
+
+/// What a client of these users may do: where users are given, what its user may.
+pub fn client_rights(users: Option<SharedUsers>, connect: &Connect) -> ClientRights
+    ensures { result ≡ client_rights users connect.now }
+{
+    match (users, &connect.user_name) {
+        (Some(users), Some(name)) => users.into_rights(name.as_bytes()),
+        _ => ClientRights::all(),
     }
 }
 

@@ -23,7 +23,7 @@ mod subscribing;
 mod terms;
 
 pub use acknowledging::fate_of;
-pub use connecting::{FirstAnswer, answer_to_connect, answer_to_first, offer};
+pub use connecting::{FirstAnswer, answer_to_connect, answer_to_first, client_rights, offer};
 pub use expiring::{interval_left, is_expired};
 pub use faults::{fault_code, fault_refusal};
 pub use hand_outs::{HandOutTerms, is_discarded, is_message_too_long};

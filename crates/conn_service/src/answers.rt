@@ -15,7 +15,7 @@ pub enum Answer {
 }
 
 /// How many answers there are.
-const ANSWER_COUNT: usize = 26;
+const ANSWER_COUNT: usize = 27;
 
 /// How many numbers count them: one for each, and the last for any other.
 const PLACES: usize = ANSWER_COUNT + 1;
@@ -24,6 +24,7 @@ const PLACES: usize = ANSWER_COUNT + 1;
 const ANSWERS: [Answer; ANSWER_COUNT] = [
     Answer::Puback(ReasonCode::SUCCESS),
     Answer::Puback(ReasonCode::NO_MATCHING_SUBSCRIBERS),
+    Answer::Puback(ReasonCode::NOT_AUTHORIZED),
     Answer::Puback(ReasonCode::QUOTA_EXCEEDED),
     Answer::Suback(ReasonCode::GRANTED_QOS_1),
     Answer::Suback(ReasonCode::IMPLEMENTATION_SPECIFIC_ERROR),

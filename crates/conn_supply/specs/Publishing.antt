@@ -1,6 +1,8 @@
 -- What a connection answers to a PUBLISH, and whom it asks (section 3.3).
-use Rattle.std.specs.Prelude.{◌≡◌, ℕ, ◌+◌, List, [], ◌∷◌, length, ◌⊎◌, Result, Ok, Err}
+use Rattle.std.specs.Prelude.{◌≡◌, ℕ, ◌+◌, Bool, true, false, List, [], ◌∷◌, length, ◌⊎◌, Result, Ok, Err}
 use Rattle.mqtt_packet.specs.declared.packet.Publish.{Publish}
+use Rattle.users.specs.Table.{Rights}
+use Rattle.users.specs.Rights.{may_publish}
 use Rattle.group_jobs.specs.declared.message.Message.{Message}
 use Rattle.group_jobs.specs.declared.stamp.Stamp.{Stamp}
 use Rattle.conn_rules.specs.declared.publishing.PublishAnswer.{PublishAnswer}
@@ -51,13 +53,18 @@ module _ {S P : Type 0} (call : S → SupplyCall P → S → Type 0) where
     pub offered : Offers mid connection (message_of now publish) slots taken new
     pub replied : reply ≡ acknowledging identifier (puback_code (length slots) taken)
 
-  -- what becomes of a PUBLISH
-  abbrev pub AnswersPublish : S → ℕ → ℕ → Publish → PublishAnswer → Reply → S → Type 0
-  AnswersPublish old connection now publish (answers.Close code) reply new = (reply ≡ closing_with code) × (new ≡ old)
-  AnswersPublish old connection now publish (answers.Offer identifier) reply new = IsOffered old connection now publish identifier reply new
+  -- it is offered where the client may publish to its topic, and else its PUBACK says that the client is not authorized (3.4.2.1)
+  abbrev pub OffersIf : Bool → S → ℕ → ℕ → Publish → ℕ → Reply → S → Type 0
+  OffersIf true old connection now publish identifier reply new = IsOffered old connection now publish identifier reply new
+  OffersIf false old connection now publish identifier reply new = (reply ≡ acknowledging identifier 0x87) × (new ≡ old)
 
-  abbrev pub Publishes : S → ℕ → ℕ → Publish → Reply → S → Type 0
-  Publishes old connection now publish reply new = AnswersPublish old connection now publish (publish_answer publish) reply new
+  -- what becomes of a PUBLISH of a client with these rights
+  abbrev pub AnswersPublish : Rights → S → ℕ → ℕ → Publish → PublishAnswer → Reply → S → Type 0
+  AnswersPublish rights old connection now publish (answers.Close code) reply new = (reply ≡ closing_with code) × (new ≡ old)
+  AnswersPublish rights old connection now publish (answers.Offer identifier) reply new = OffersIf (may_publish rights publish.topic) old connection now publish identifier reply new
+
+  abbrev pub Publishes : Rights → S → ℕ → ℕ → Publish → Reply → S → Type 0
+  Publishes rights old connection now publish reply new = AnswersPublish rights old connection now publish (publish_answer publish) reply new
 
   -- what was done where an allocation failed: the message was offered to none of the groups that match, or to each of them up to one that had no memory for it
   pub record IsCutShort (old : S) (connection now : ℕ) (publish : Publish) (new : S) : Type 0 where
@@ -65,3 +72,7 @@ module _ {S P : Type 0} (call : S → SupplyCall P → S → Type 0) where
     pub mid : S
     pub matched : call old (Match publish.topic slots) mid
     pub offered : OffersSome mid connection (message_of now publish) slots new
+
+  -- so it is only where the client may publish to its topic
+  abbrev pub FailsToPublish : Rights → S → ℕ → ℕ → Publish → S → Type 0
+  FailsToPublish rights old connection now publish new = IsCutShort old connection now publish new × (may_publish rights publish.topic ≡ true)

@@ -1,5 +1,5 @@
 -- What a connection answers to a SUBSCRIBE and to an UNSUBSCRIBE, and whom it asks (sections 3.8 to 3.11).
-use Rattle.std.specs.Prelude.{◌≡◌, ◌≢◌, ℕ, List, [], ◌∷◌, Option, Some, None, Result, Ok, Err, ◌⊎◌, ◌==◌, if◌then◌else◌}
+use Rattle.std.specs.Prelude.{◌≡◌, ◌≢◌, ℕ, Bool, true, false, List, [], ◌∷◌, Option, Some, None, Result, Ok, Err, ◌⊎◌, ◌==◌, if◌then◌else◌}
 use Rattle.std.specs.List.{list_any}
 use Rattle.mqtt_packet.specs.declared.packet.Subscribe.{Subscribe}
 use Rattle.mqtt_packet.specs.declared.packet.Subscription.{Subscription}
@@ -10,6 +10,8 @@ use Rattle.conn_rules.specs.declared.subscribing.EntryAnswer.{EntryAnswer}
 use Rattle.conn_rules.specs.declared.subscribing.EntryAnswer.TheVariants as answers
 use Rattle.conn_rules.specs.Subscribing.{entry_answer, subscribe_refusal, unsubscribe_refusal}
 use Rattle.conn_rules.specs.Packets.{suback, unsuback}
+use Rattle.users.specs.Table.{Rights}
+use Rattle.users.specs.Rights.{may_work}
 use Rattle.session_desk.specs.declared.session.Membership.{Membership}
 use Rattle.session_desk.specs.declared.session.Membership.TheVariants.{NotMember, Member, Leaving}
 use Rattle.conn_supply.specs.declared.reply.Reply.{Reply}
@@ -48,49 +50,54 @@ module _ {S P : Type 0} (call : S → SupplyCall P → S → Type 0) (slot_of : 
   Joins old (Member place) share code membership new = (found : Option ℕ) × call old (Find share found) new × StaysAs place found (Member place) code membership
   Joins old (Leaving place) share code membership new = (found : Option ℕ) × call old (Find share found) new × StaysAs place found (Leaving place) code membership
 
-  -- an entry of a SUBSCRIBE
-  abbrev pub AnswersEntry : S → Membership P → EntryAnswer → ℕ → Membership P → S → Type 0
-  AnswersEntry old membership (answers.Refuse refused) code membership' new = (code ≡ refused) × (membership' ≡ membership) × (new ≡ old)
-  AnswersEntry old membership (answers.Join share) code membership' new = Joins old membership share code membership' new
+  -- it is joined where the client may work for it, and else the client is not authorized (3.9.3)
+  abbrev pub JoinsIf : Bool → S → Membership P → Share → ℕ → Membership P → S → Type 0
+  JoinsIf true old membership share code membership' new = Joins old membership share code membership' new
+  JoinsIf false old membership share code membership' new = (code ≡ 0x87) × (membership' ≡ membership) × (new ≡ old)
+
+  -- an entry of a SUBSCRIBE of a client with these rights
+  abbrev pub AnswersEntry : Rights → S → Membership P → EntryAnswer → ℕ → Membership P → S → Type 0
+  AnswersEntry rights old membership (answers.Refuse refused) code membership' new = (code ≡ refused) × (membership' ≡ membership) × (new ≡ old)
+  AnswersEntry rights old membership (answers.Join share) code membership' new = JoinsIf (may_work rights share.text) old membership share code membership' new
 
   -- a share was to be bound, and there was no memory: nothing has changed
   abbrev pub IsUnbound : S → Membership P → Membership P → S → Type 0
   IsUnbound old membership membership' new = (share : Share) × call old (Bind share (Err refusal.Memory)) new × (membership' ≡ membership)
 
   -- the entries of a SUBSCRIBE, in their order: each sees what the earlier ones did
-  abbrev pub AnswersEntries : S → Membership P → List Subscription → List ℕ → Membership P → S → Type 0
-  AnswersEntries old membership [] codes membership' new = (codes ≡ []) × (membership' ≡ membership) × (new ≡ old)
-  AnswersEntries old membership (entry ∷ entries) codes membership' new =
+  abbrev pub AnswersEntries : Rights → S → Membership P → List Subscription → List ℕ → Membership P → S → Type 0
+  AnswersEntries rights old membership [] codes membership' new = (codes ≡ []) × (membership' ≡ membership) × (new ≡ old)
+  AnswersEntries rights old membership (entry ∷ entries) codes membership' new =
       (code : ℕ) × (rest : List ℕ) × (between : Membership P) × (mid : S)
-      × AnswersEntry old membership (entry_answer entry) code between mid
-      × AnswersEntries mid between entries rest membership' new × (codes ≡ code ∷ rest)
+      × AnswersEntry rights old membership (entry_answer entry) code between mid
+      × AnswersEntries rights mid between entries rest membership' new × (codes ≡ code ∷ rest)
 
   -- some of the entries were answered, from the first on, at least one; or there was no memory for the first
-  abbrev pub AnswersFirst : S → Membership P → List Subscription → Membership P → S → Type 0
-  AnswersFirst old membership [] membership' new = ⊥
-  AnswersFirst old membership (entry ∷ entries) membership' new =
+  abbrev pub AnswersFirst : Rights → S → Membership P → List Subscription → Membership P → S → Type 0
+  AnswersFirst rights old membership [] membership' new = ⊥
+  AnswersFirst rights old membership (entry ∷ entries) membership' new =
       IsUnbound old membership membership' new
       ⊎ ((code : ℕ) × (between : Membership P) × (mid : S)
-      × AnswersEntry old membership (entry_answer entry) code between mid
-      × AnswersFirst mid between entries membership' new)
+      × AnswersEntry rights old membership (entry_answer entry) code between mid
+      × AnswersFirst rights mid between entries membership' new)
 
   -- where an allocation failed, some of the entries were answered, from the first on, or none
-  abbrev pub AnswersSome : S → Membership P → List Subscription → Membership P → S → Type 0
-  AnswersSome old membership entries membership' new =
-      ((membership' ≡ membership) × (new ≡ old)) ⊎ AnswersFirst old membership entries membership' new
+  abbrev pub AnswersSome : Rights → S → Membership P → List Subscription → Membership P → S → Type 0
+  AnswersSome rights old membership entries membership' new =
+      ((membership' ≡ membership) × (new ≡ old)) ⊎ AnswersFirst rights old membership entries membership' new
 
   -- a SUBSCRIBE closes the connection, or is answered by a SUBACK with a code for each entry
-  abbrev pub SubscribesAs : Option ℕ → S → Membership P → Option ℕ → Subscribe → Reply → Membership P → Option ℕ → S → Type 0
-  SubscribesAs (Some code) old membership subscription subscribe reply membership' subscription' new =
+  abbrev pub SubscribesAs : Option ℕ → Rights → S → Membership P → Option ℕ → Subscribe → Reply → Membership P → Option ℕ → S → Type 0
+  SubscribesAs (Some code) rights old membership subscription subscribe reply membership' subscription' new =
       (reply ≡ closing_with code) × (membership' ≡ membership) × (subscription' ≡ subscription) × (new ≡ old)
-  SubscribesAs None old membership subscription subscribe reply membership' subscription' new =
+  SubscribesAs None rights old membership subscription subscribe reply membership' subscription' new =
       (codes : List ℕ) × (reply ≡ going_on (Some (suback subscribe.packet_identifier codes)))
-      × AnswersEntries old membership subscribe.subscriptions codes membership' new
+      × AnswersEntries rights old membership subscribe.subscriptions codes membership' new
       × (subscription' ≡ subscription_after codes subscribe.properties.subscription_identifier subscription)
 
-  abbrev pub Subscribes : S → Membership P → Option ℕ → Subscribe → Reply → Membership P → Option ℕ → S → Type 0
-  Subscribes old membership subscription subscribe reply membership' subscription' new =
-      SubscribesAs (subscribe_refusal subscribe) old membership subscription subscribe reply membership' subscription' new
+  abbrev pub Subscribes : Rights → S → Membership P → Option ℕ → Subscribe → Reply → Membership P → Option ℕ → S → Type 0
+  Subscribes rights old membership subscription subscribe reply membership' subscription' new =
+      SubscribesAs (subscribe_refusal subscribe) rights old membership subscription subscribe reply membership' subscription' new
 
   -- a member leaves by the very text of its share
   abbrev pub LeavesFrom : P → Option ℕ → ℕ → Membership P → Type 0

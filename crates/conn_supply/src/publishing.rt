@@ -1,22 +1,24 @@
 //! The answer to a PUBLISH (section 3.3).
 ghost use Rattle.std.specs.Prelude.{◌≡◌, ◌≤◌, ◌+◌, Ok, Err, [], length, All, IfOk, OnOk, OnErr, vec_len, true};
 ghost use Rattle.mqtt_topic.specs.Names.{name_of};
+ghost use Rattle.users.specs.Rights.{may_publish};
 ghost use Rattle.conn_rules.specs.Publishing.{message_of, publish_answer};
 ghost use Rattle.conn_rules.specs.declared.publishing.PublishAnswer.TheVariants as answers;
 ghost use Rattle.conn_supply.specs.declared.supply.OfferRefusal.TheVariants as refusals;
 ghost use Rattle.conn_supply.specs.SupplyCalls.SupplyCall.{Match, Offer};
-ghost use Rattle.conn_supply.specs.Publishing.{Took, Offers, OffersFirst, OffersSome, IsOffered, IsCutShort, Publishes};
+ghost use Rattle.conn_supply.specs.Publishing.{Took, Offers, OffersFirst, OffersIf, OffersSome, IsCutShort, IsOffered, FailsToPublish, Publishes};
 
 use crate::reply::Reply;
 use crate::supply::{HoldingPlace, NoMemory, OfferRefusal, Supply};
 use conn_rules::{PublishAnswer, answer_to_publish, message_of, puback_code};
 use group_jobs::{Message, SharedMessage};
-use mqtt_packet::{PacketIdentifier, Publish, Text};
+use mqtt_packet::{PacketIdentifier, Publish, ReasonCode, Text};
 use mqtt_topic::{SlotIter, Slots, TopicName};
 use std::alloc::Global;
+use users::ClientRights;
 
-/// Answers a PUBLISH of this connection that came at this moment, in milliseconds: it is offered to each group that matches. A visit of the supply is
-/// going on.
+/// Answers a PUBLISH of this connection that came at this moment, in milliseconds: it is offered to each group that matches, where its client may publish to its
+/// topic. A visit of the supply is going on.
 ///
 /// # Errors
 ///
@@ -25,12 +27,13 @@ pub fn publish<P: HoldingPlace, S: Supply<P>>(
     supply: &mut S,
     alloc: Global,
     connection: u16,
+    rights: &ClientRights,
     now: u64,
     publish: Publish,
 ) -> Result<Reply, NoMemory>
     requires visiting { S.visiting supply.old ≡ true }
-    ensures replied { IfOk result (λ reply. Publishes S.call supply.old connection now publish reply supply.new) }
-    ensures cut_short { OnErr result (IsCutShort S.call supply.old connection now publish supply.new) }
+    ensures replied { IfOk result (λ reply. Publishes S.call rights.now supply.old connection now publish reply supply.new) }
+    ensures cut_short { OnErr result (FailsToPublish S.call rights.now supply.old connection now publish supply.new) }
     ensures visiting { S.visiting supply.new ≡ S.visiting supply.old }
 {
     match answer_to_publish(&publish) {
@@ -39,8 +42,36 @@ pub fn publish<P: HoldingPlace, S: Supply<P>>(
             Ok(Reply::closing_with(alloc, code))
         }
         PublishAnswer::Offer(identifier) => {
-            offer(supply, alloc, connection, now, identifier, publish)
+            offer_if_allowed(supply, alloc, connection, rights, now, identifier, publish)
         }
+    }
+}
+
+/// Offers the message of a PUBLISH where the client may publish to its topic, and answers by a PUBACK.
+#[tactic(auto, using(crate::proofs::Topics::offered_is_named))]
+fn offer_if_allowed<P: HoldingPlace, S: Supply<P>>(
+    supply: &mut S,
+    alloc: Global,
+    connection: u16,
+    rights: &ClientRights,
+    now: u64,
+    identifier: PacketIdentifier,
+    mut publish: Publish,
+) -> Result<Reply, NoMemory>
+    requires offered { publish_answer publish ≡ answers.Offer identifier }
+    requires visiting { S.visiting supply.old ≡ true }
+    ensures replied { IfOk result (λ reply. OffersIf S.call (may_publish rights.now publish.topic) supply.old connection now publish identifier reply supply.new) }
+    ensures cut_short { OnErr result (FailsToPublish S.call rights.now supply.old connection now publish supply.new) }
+    ensures visiting { S.visiting supply.new ≡ S.visiting supply.old }
+{
+    let topic = TopicName::known(publish.topic);
+    let is_allowed = rights.may_publish(&topic);
+    publish.topic = topic.into_text();
+    if is_allowed {
+        offer(supply, alloc, connection, now, identifier, publish)
+    } else {
+        drop(publish);
+        Ok(Reply::acknowledging(alloc, identifier, ReasonCode::NOT_AUTHORIZED))
     }
 }
 

@@ -2,9 +2,10 @@
 ghost use Rattle.std.specs.Prelude.{◌≡◌, ◌<◌, ◌≤◌, ◌+◌, ◌++◌, ◌↔◌, List, ℕ, Option, Some, length, IsTrue, MatchResult, vec_len, vec_capacity, ◌==◌};
 ghost use Rattle.std.specs.List.{list_any};
 ghost use Rattle.mqtt_topic.specs.Names.{share_of};
+ghost use Rattle.users.specs.Rights.{may_work};
 ghost use Rattle.conn_supply.specs.SupplyCalls.SupplyCall.{Find};
 ghost use Rattle.conn_supply.specs.Holding.{StayOut};
-ghost use Rattle.conn_supply.specs.Subscribing.{IsLent, EntersAs, Joins, AnswersEntry, AnswersEntries, AnswersFirst, AnswersSome, IsUnbound, Subscribes, subscription_after, LeavesBy, LeavesByAll, Unsubscribes};
+ghost use Rattle.conn_supply.specs.Subscribing.{IsLent, EntersAs, Joins, JoinsIf, AnswersEntry, AnswersEntries, AnswersFirst, AnswersSome, IsUnbound, Subscribes, subscription_after, LeavesBy, LeavesByAll, Unsubscribes};
 ghost use Rattle.session_desk.specs.declared.session.Membership.TheVariants.{NotMember};
 ghost use Rattle.conn_rules.specs.Packets.{suback, unsuback};
 ghost use Rattle.conn_supply.specs.Replies.{going_on};
@@ -23,8 +24,9 @@ use mqtt_topic::Share;
 use session_desk::{Membership, Place};
 use std::alloc::Global;
 use std::vec::IntoIter;
+use users::ClientRights;
 
-/// Answers a SUBSCRIBE of a session with this membership, which comes back as it is from then on. Where an entry is granted, the session's
+/// Answers a SUBSCRIBE of a client with these rights, whose session has this membership, which comes back as it is from then on. Where an entry is granted, the session's
 /// Subscription Identifier is that of the SUBSCRIBE from then on, or none where it has none (section 3.8.2.1.2).
 ///
 /// # Errors
@@ -33,13 +35,14 @@ use std::vec::IntoIter;
 pub fn subscribe<P: HoldingPlace, S: Supply<P>>(
     supply: &mut S,
     alloc: Global,
+    rights: &ClientRights,
     membership: Membership<P>,
     subscription: &mut Option<SubscriptionIdentifier>,
     subscribe: Subscribe,
 ) -> (Membership<P>, Result<Reply, NoMemory>)
     ensures answered { MatchResult result.1
-        (λ reply. Subscribes S.call P.slot_of supply.old membership subscription.old subscribe reply result.0 subscription.new supply.new)
-        (λ _. AnswersSome S.call P.slot_of supply.old membership subscribe.subscriptions result.0 supply.new × (subscription.new ≡ subscription.old)) }
+        (λ reply. Subscribes S.call P.slot_of rights.now supply.old membership subscription.old subscribe reply result.0 subscription.new supply.new)
+        (λ _. AnswersSome S.call P.slot_of rights.now supply.old membership subscribe.subscriptions result.0 supply.new × (subscription.new ≡ subscription.old)) }
     ensures out { StayOut P.has_out membership result.0 }
     ensures visiting { S.visiting supply.new ≡ S.visiting supply.old }
 {
@@ -56,7 +59,7 @@ pub fn subscribe<P: HoldingPlace, S: Supply<P>>(
     let Ok(mut codes) = Vec::with_capacity(alloc, entries.len()) else {
         return (membership, Err(NoMemory));
     };
-    match answer_entries(supply, membership, entries.into_iter(), &mut codes) {
+    match answer_entries(supply, rights, membership, entries.into_iter(), &mut codes) {
         (membership, Ok(())) => {
             let reply = granted(subscription, asked, packet_identifier, codes);
             (membership, Ok(reply))
@@ -95,6 +98,7 @@ fn granted(
 /// Answers the entries of a SUBSCRIBE, in their order, each by a code.
 fn answer_entries<P: HoldingPlace, S: Supply<P>>(
     supply: &mut S,
+    rights: &ClientRights,
     membership: Membership<P>,
     mut entries: IntoIter<Subscription>,
     codes: &mut Vec<ReasonCode>,
@@ -102,19 +106,19 @@ fn answer_entries<P: HoldingPlace, S: Supply<P>>(
     requires room { vec_len codes.old + into_iter_len entries ≤ vec_capacity codes.old }
     requires counted { length (into_iter_items entries) ≡ into_iter_len entries }
     ensures answered { MatchResult result.1
-        (λ _. (rest : List ℕ) × AnswersEntries S.call P.slot_of supply.old membership (into_iter_items entries) rest result.0 supply.new
+        (λ _. (rest : List ℕ) × AnswersEntries S.call P.slot_of rights.now supply.old membership (into_iter_items entries) rest result.0 supply.new
         × (codes.new.items ≡ codes.old.items ++ rest) × (length rest ≡ into_iter_len entries))
-        (λ _. AnswersFirst S.call P.slot_of supply.old membership (into_iter_items entries) result.0 supply.new) }
+        (λ _. AnswersFirst S.call P.slot_of rights.now supply.old membership (into_iter_items entries) result.0 supply.new) }
     ensures out { StayOut P.has_out membership result.0 }
     ensures visiting { S.visiting supply.new ≡ S.visiting supply.old }
 {
     let Some(entry) = entries.next() else {
         return (membership, Ok(()));
     };
-    match answer_entry(supply, membership, answer_to_entry(entry)) {
+    match answer_entry(supply, rights, membership, answer_to_entry(entry)) {
         (membership, Ok(code)) => {
             codes.push_reserved(code);
-            answer_entries(supply, membership, entries, codes)
+            answer_entries(supply, rights, membership, entries, codes)
         }
         (membership, Err(NoMemory)) => (membership, Err(NoMemory)),
     }
@@ -123,18 +127,40 @@ fn answer_entries<P: HoldingPlace, S: Supply<P>>(
 /// Answers an entry that is to be answered so by a code.
 fn answer_entry<P: HoldingPlace, S: Supply<P>>(
     supply: &mut S,
+    rights: &ClientRights,
     membership: Membership<P>,
     answer: EntryAnswer,
 ) -> (Membership<P>, Result<ReasonCode, NoMemory>)
     ensures answered { MatchResult result.1
-        (λ code. AnswersEntry S.call P.slot_of supply.old membership answer code result.0 supply.new)
+        (λ code. AnswersEntry S.call P.slot_of rights.now supply.old membership answer code result.0 supply.new)
         (λ _. IsUnbound S.call P.slot_of supply.old membership result.0 supply.new) }
     ensures out { StayOut P.has_out membership result.0 }
     ensures visiting { S.visiting supply.new ≡ S.visiting supply.old }
 {
     match answer {
         EntryAnswer::Refuse(code) => (membership, Ok(code)),
-        EntryAnswer::Join(share) => join(supply, membership, share),
+        EntryAnswer::Join(share) => join_if_allowed(supply, rights, membership, share),
+    }
+}
+
+/// Joins a share where the client may work for it.
+fn join_if_allowed<P: HoldingPlace, S: Supply<P>>(
+    supply: &mut S,
+    rights: &ClientRights,
+    membership: Membership<P>,
+    share: Share,
+) -> (Membership<P>, Result<ReasonCode, NoMemory>)
+    ensures answered { MatchResult result.1
+        (λ code. JoinsIf S.call P.slot_of (may_work rights.now share.text) supply.old membership share code result.0 supply.new)
+        (λ _. IsUnbound S.call P.slot_of supply.old membership result.0 supply.new) }
+    ensures out { StayOut P.has_out membership result.0 }
+    ensures visiting { S.visiting supply.new ≡ S.visiting supply.old }
+{
+    if rights.may_work(&share) {
+        join(supply, membership, share)
+    } else {
+        drop(share);
+        (membership, Ok(ReasonCode::NOT_AUTHORIZED))
     }
 }
 

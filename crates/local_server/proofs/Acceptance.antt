@@ -25,6 +25,7 @@ use Rattle.member_window.proofs.Lists.{contains_here, contains_there, contains_c
 use Rattle.member_window.specs.Contents.{Contents, after_resend}
 use Rattle.session_desk.specs.declared.session.Membership.{Membership}
 use Rattle.session_desk.specs.declared.session.Membership.TheVariants.{NotMember, Member, Leaving}
+use Rattle.users.specs.Rights.{may_publish}
 use Rattle.conn_rules.specs.declared.connecting.FirstAnswer.{FirstAnswer}
 use Rattle.conn_rules.specs.declared.connecting.FirstAnswer.TheVariants as first
 use Rattle.conn_rules.specs.declared.hand_outs.HandOutTerms.{HandOutTerms}
@@ -39,7 +40,7 @@ use Rattle.conn_supply.specs.declared.supply.NoMemory.{NoMemory}
 use Rattle.conn_supply.specs.declared.supply.OfferRefusal.{OfferRefusal}
 use Rattle.conn_supply.specs.declared.supply.OfferRefusal.TheVariants as refusal
 use Rattle.conn_supply.specs.HandOuts.{SendsAgain, SendsFresh, HandsFresh}
-use Rattle.conn_supply.specs.Publishing.{Took, Offers, AnswersPublish}
+use Rattle.conn_supply.specs.Publishing.{AnswersPublish, Offers, OffersIf, Took}
 use Rattle.conn_supply.specs.Replies.{acknowledging}
 use Rattle.conn_supply.specs.SupplyCalls.{SupplyCall}
 use Rattle.conn_supply.specs.SupplyCalls.SupplyCall.{Attach, Withdraw, Kicked, Park, ParkAsIs, Keep, Bury, Sweep, LendPlace, TakePlace, Bind, Find, Match, Offer, MayTake, Take, TakeBack, Settle, GiveBack}
@@ -49,7 +50,7 @@ use Rattle.conn_engine.specs.declared.phase.ConnectedClient.{ConnectedClient}
 use Rattle.conn_engine.specs.declared.phase.ConnPhase.{ConnPhase}
 use Rattle.conn_engine.specs.declared.phase.ConnPhase.TheVariants.{Unconnected, Waiting, Connected, Ended}
 use Rattle.conn_engine.specs.Step.{hand_out_terms, IsParted, AnswersFirst, Concludes, AnswersPacket, AnswersUnlessKicked, Reacts, Hands}
-use Rattle.conn_laws.specs.Calls.{offer_of, offered, OffersToEach, OffersNone, MakesAll}
+use Rattle.conn_laws.specs.Calls.{is_allowed, offer_of, offered, OffersToEach, OffersNone, MakesAll}
 use Rattle.conn_laws.proofs.Calling.{attached, parted}
 use Rattle.conn_laws.proofs.Stepping.{reacted as calls_of_reply, handed_behind}
 use Rattle.local_broker.specs.Places.{GroupPlace}
@@ -59,7 +60,7 @@ use Rattle.local_broker.specs.Calls.{Calls, OffersFrom}
 use Rattle.local_server.specs.Happening.{slot_of}
 use Rattle.local_server.specs.TakenSteps.{TakenStep, IsLawfulStep}
 use Rattle.local_server.specs.Messages.{accepted_in}
-use Rattle.local_server.specs.Acceptance.{ports_of, ports_in, AcceptsOne, AcceptsNone, matching, Says, puback_in, pubacks_in, AcknowledgesWhatIsAccepted}
+use Rattle.local_server.specs.Acceptance.{ports_of, ports_in, AcceptsOne, AcceptsNone, matching, Says, SaysIf, puback_in, pubacks_in, AcknowledgesWhatIsAccepted}
 use Rattle.local_server.specs.Acceptance.Says.{NoneMatches, AllAccept, OneRefuses}
 use Rattle.local_server.proofs.Accepting.{AreAscending, places_ascend}
 use Rattle.local_server.proofs.PubackReplies.{IsNoPuback, IsNoPublish, answers_first, replied}
@@ -330,14 +331,28 @@ code_says (slot ∷ slots) old new connection taken came =
     came.all_or_not
 
 -- what a reply says
-record Acked (old : Broker) (connection : ℕ) (input : Input) (reply : Reply) (new : Broker) : Type 0 where
+record Acked (old : Broker) (connection : ℕ) (phase : ConnPhase GroupPlace) (input : Input) (reply : Reply) (new : Broker) : Type 0 where
   publish : Publish
   came : input ≡ inputs.Packet (packets.Publish publish)
+  allowed : is_allowed phase publish ≡ true
   identifier : ℕ
   delivery : publish.delivery ≡ AtLeastOnce identifier
   taken : ℕ
   replied_so : reply ≡ acknowledging identifier (puback_code (length (matching publish.topic old)) taken)
   offered_so : Offered old connection (matching publish.topic old) taken new
+
+-- it says that the client may not publish to the topic
+record Forbidden (old : Broker) (phase : ConnPhase GroupPlace) (input : Input) (reply : Reply) (new : Broker) : Type 0 where
+  publish : Publish
+  came : input ≡ inputs.Packet (packets.Publish publish)
+  forbidden : is_allowed phase publish ≡ false
+  identifier : ℕ
+  delivery : publish.delivery ≡ AtLeastOnce identifier
+  replied_so : reply ≡ acknowledging identifier 0x87
+  none : (slot : ℕ) → AcceptsNone old new slot
+
+abbrev Tells : Broker → ℕ → ConnPhase GroupPlace → Input → Reply → Broker → Type 0
+Tells old connection phase input reply new = Acked old connection phase input reply new ⊎ Forbidden old phase input reply new
 
 -- a PUBLISH of QoS 1 is what the connection does not go on after
 abbrev StopsAtPublish : Input → Reply → Type 0
@@ -367,17 +382,21 @@ parts_none : (old new : Broker) (connected : ConnectedClient GroupPlace) (now : 
 parts_none old new connected now phase does =
     let calls = parted Calls old new connected.session now does.0 in all_called calls.supply_calls old new calls.offers calls.made
 
-published : (answer : PublishAnswer) (old new : Broker) (number now : ℕ) (connected : ConnectedClient GroupPlace) (publish : Publish) (after : ConnectedClient GroupPlace) (mid : Broker)
-    (phase : ConnPhase GroupPlace) (reply : Reply) → publish_answer publish ≡ answer → AnswersPublish Calls old number now publish answer reply mid
-    → Concludes Calls slot_of mid after now reply.next phase new → Acked old number (inputs.Packet (packets.Publish publish)) reply new ⊎ NotAcked old (inputs.Packet (packets.Publish publish)) reply new
-published (answers.Close code) old new number now connected publish after mid phase reply is does concludes =
-    let parts = subst (λ (r : Reply). Concludes Calls slot_of mid after now r.next phase new) does.0 concludes in
-    inr (
-      ap (λ (r : Reply). pubacks_in (option_to_list r.packet)) does.0,
-      (λ slot. parts_none mid new after now phase parts slot ∙ same_groups old mid (ap (λ (b : Broker). b.groups) does.1) slot),
-      stops (inputs.Packet (packets.Publish publish)) reply _ does.0 (λ go. cc),
-    )
-published (answers.Offer identifier) old new number now connected publish after mid phase reply is does concludes =
+offered_if : (allowed : Bool) (identifier : ℕ) (old new : Broker) (number now : ℕ) (connected : ConnectedClient GroupPlace) (publish : Publish) (after : ConnectedClient GroupPlace) (mid : Broker)
+    (phase : ConnPhase GroupPlace) (reply : Reply) → publish_answer publish ≡ answers.Offer identifier → may_publish connected.rights publish.topic ≡ allowed → OffersIf Calls allowed old number now publish identifier reply mid
+    → Concludes Calls slot_of mid after now reply.next phase new → Tells old number (Connected connected) (inputs.Packet (packets.Publish publish)) reply new
+offered_if false identifier old new number now connected publish after mid phase reply is forbidden does concludes =
+    let on = subst (λ (r : Reply). Concludes Calls slot_of mid after now r.next phase new) does.0 concludes in
+    inr (record {
+      publish = publish;
+      came = refl;
+      forbidden = forbidden;
+      identifier = identifier;
+      delivery = delivered publish.delivery publish identifier is;
+      replied_so = does.0;
+      none = λ slot. same_groups mid new (ap (λ (b : Broker). b.groups) on.1) slot ∙ same_groups old mid (ap (λ (b : Broker). b.groups) does.1) slot;
+    })
+offered_if true identifier old new number now connected publish after mid phase reply is allowed does concludes =
     let on = subst (λ (r : Reply). Concludes Calls slot_of mid after now r.next phase new) does.replied concludes in
     let slots : does.slots ≡ matching publish.topic old = does.matched.0 in
     let offers : Offers Calls old number (message_of now publish) (matching publish.topic old) does.taken mid =
@@ -386,6 +405,7 @@ published (answers.Offer identifier) old new number now connected publish after 
     inl (record {
       publish = publish;
       came = refl;
+      allowed = allowed;
       identifier = identifier;
       delivery = delivered publish.delivery publish identifier is;
       taken = does.taken;
@@ -395,14 +415,38 @@ published (answers.Offer identifier) old new number now connected publish after 
           (offered_to (matching publish.topic old) 0 old mid number does.taken (message_of now publish) (places_ascend 0 (routed publish.topic old.routes)) offers);
     })
 
+published : (answer : PublishAnswer) (old new : Broker) (number now : ℕ) (connected : ConnectedClient GroupPlace) (publish : Publish) (after : ConnectedClient GroupPlace) (mid : Broker)
+    (phase : ConnPhase GroupPlace) (reply : Reply) → publish_answer publish ≡ answer → AnswersPublish Calls connected.rights old number now publish answer reply mid
+    → Concludes Calls slot_of mid after now reply.next phase new → Tells old number (Connected connected) (inputs.Packet (packets.Publish publish)) reply new ⊎ NotAcked old (inputs.Packet (packets.Publish publish)) reply new
+published (answers.Close code) old new number now connected publish after mid phase reply is does concludes =
+    let parts = subst (λ (r : Reply). Concludes Calls slot_of mid after now r.next phase new) does.0 concludes in
+    inr (
+      ap (λ (r : Reply). pubacks_in (option_to_list r.packet)) does.0,
+      (λ slot. parts_none mid new after now phase parts slot ∙ same_groups old mid (ap (λ (b : Broker). b.groups) does.1) slot),
+      stops (inputs.Packet (packets.Publish publish)) reply _ does.0 (λ go. cc),
+    )
+published (answers.Offer identifier) old new number now connected publish after mid phase reply is does concludes =
+    inl (offered_if (may_publish connected.rights publish.topic) identifier old new number now connected publish after mid phase reply is refl does concludes)
+
 -- after a call of the desk
-desk_before : (old mid new : Broker) (number : ℕ) (input : Input) (reply : Reply) (kicked : Bool) → Calls old (Kicked number kicked) mid → Acked mid number input reply new ⊎ NotAcked mid input reply new
-    → Acked old number input reply new ⊎ NotAcked old input reply new
-desk_before old mid new number input reply kicked does (inl acked) =
+desk_before : (old mid new : Broker) (number : ℕ) (phase : ConnPhase GroupPlace) (input : Input) (reply : Reply) (kicked : Bool) → Calls old (Kicked number kicked) mid
+    → Tells mid number phase input reply new ⊎ NotAcked mid input reply new → Tells old number phase input reply new ⊎ NotAcked old input reply new
+desk_before old mid new number phase input reply kicked does (inl (inr told)) =
+    inl (inr (record {
+      publish = told.publish;
+      came = told.came;
+      forbidden = told.forbidden;
+      identifier = told.identifier;
+      delivery = told.delivery;
+      replied_so = told.replied_so;
+      none = λ slot. told.none slot ∙ same_desk_call old mid number kicked does slot;
+    }))
+desk_before old mid new number phase input reply kicked does (inl (inl acked)) =
     let same : matching acked.publish.topic mid ≡ matching acked.publish.topic old = ap (λ (shares : List Share). places_of 0 (routed acked.publish.topic shares)) does.routes in
-    inl (record {
+    inl (inl (record {
       publish = acked.publish;
       came = acked.came;
+      allowed = acked.allowed;
       identifier = acked.identifier;
       delivery = acked.delivery;
       taken = acked.taken;
@@ -410,12 +454,12 @@ desk_before old mid new number input reply kicked does (inl acked) =
       offered_so =
           subst (λ (s : List ℕ). Offered old number s acked.taken new) same
           (around old mid new new number (matching acked.publish.topic mid) acked.taken (same_desk_call old mid number kicked does) (λ slot. refl) acked.offered_so);
-    })
-desk_before old mid new number input reply kicked does (inr none) = inr (none.0, (λ slot. none.1 slot ∙ same_desk_call old mid number kicked does slot), none.2)
+    }))
+desk_before old mid new number phase input reply kicked does (inr none) = inr (none.0, (λ slot. none.1 slot ∙ same_desk_call old mid number kicked does slot), none.2)
 
 unless_kicked : (kicked : Bool) (old new : Broker) (number now : ℕ) (connected : ConnectedClient GroupPlace) (publish : Publish) (phase : ConnPhase GroupPlace) (reply : Reply)
     → AnswersUnlessKicked Calls slot_of kicked old connected now (AnswersPacket Calls slot_of old number connected now (packets.Publish publish)) phase reply new
-    → Acked old number (inputs.Packet (packets.Publish publish)) reply new ⊎ NotAcked old (inputs.Packet (packets.Publish publish)) reply new
+    → Tells old number (Connected connected) (inputs.Packet (packets.Publish publish)) reply new ⊎ NotAcked old (inputs.Packet (packets.Publish publish)) reply new
 unless_kicked true old new number now connected publish phase reply does =
     inr (
       ap (λ (r : Reply). pubacks_in (option_to_list r.packet)) does.0,
@@ -432,7 +476,7 @@ other_reply phase input old new number now between reply other does =
     let calls = calls_of_reply Calls slot_of phase input old new number now between reply does in (
       replied Calls slot_of phase input old new number now between reply other does,
       ⊎_elim
-          (λ (each : OffersToEach number now input calls.supply_calls). absurd (other each.publish each.came))
+          (λ (each : OffersToEach number now phase input calls.supply_calls). absurd (other each.publish each.came))
           (λ (none : OffersNone phase input calls.supply_calls reply.next). all_called calls.supply_calls old new none.offers calls.made)
           calls.offers,
       λ publish identifier came delivery. absurd (other publish came),
@@ -464,7 +508,7 @@ stops_first (packets.OtherVersion version) old new number limits now phase reply
 stops_first packets.WithWill old new number limits now phase reply does = λ publish identifier came delivery go. cc
 
 reacted : (phase : ConnPhase GroupPlace) (input : Input) (old new : Broker) (number now : ℕ) (between : ConnPhase GroupPlace) (reply : Reply)
-    → Reacts Calls slot_of old number phase now input between reply new → Acked old number input reply new ⊎ NotAcked old input reply new
+    → Reacts Calls slot_of old number phase now input between reply new → Tells old number phase input reply new ⊎ NotAcked old input reply new
 reacted (Unconnected opened) (inputs.Packet packet) old new number now between reply does =
     inr (
       answers_first Calls slot_of (first_answer opened.limits.users packet) old new number opened.limits now packet between reply does,
@@ -479,7 +523,7 @@ reacted Ended (inputs.Packet packet) old new number now between reply does =
       stops (inputs.Packet packet) reply _ does.0.told (λ go. cc),
     )
 reacted (Connected connected) (inputs.Packet (packets.Publish publish)) old new number now between reply does =
-    desk_before old does.1 new number (inputs.Packet (packets.Publish publish)) reply does.0 does.2 (unless_kicked does.0 does.1 new number now connected publish between reply does.3)
+    desk_before old does.1 new number (Connected connected) (inputs.Packet (packets.Publish publish)) reply does.0 does.2 (unless_kicked does.0 does.1 new number now connected publish between reply does.3)
 reacted (Connected connected) (inputs.Packet (packets.Connect packet)) old new number now between reply does = inr (other_reply (Connected connected) (inputs.Packet (packets.Connect packet)) old new number now between reply (λ publish e. cc) does)
 reacted (Connected connected) (inputs.Packet (packets.Connack packet)) old new number now between reply does = inr (other_reply (Connected connected) (inputs.Packet (packets.Connack packet)) old new number now between reply (λ publish e. cc) does)
 reacted (Connected connected) (inputs.Packet (packets.Puback packet)) old new number now between reply does = inr (other_reply (Connected connected) (inputs.Packet (packets.Puback packet)) old new number now between reply (λ publish e. cc) does)
@@ -537,7 +581,8 @@ acknowledges step steps =
     let later = all_called behind.calls.supply_calls steps.mid new behind.calls.offers behind.calls.made in
     let none_later = none_sent steps.between step.at steps.mid new steps.sent step.phase_after steps.hands in
     ⊎_elim
-    (λ (acked : Acked old step.connection step.input steps.reply steps.mid).
+    (⊎_elim
+    (λ (acked : Acked old step.connection step.phase_before step.input steps.reply steps.mid).
     let slots = matching acked.publish.topic old in
     let offered = around old old steps.mid new step.connection slots acked.taken (λ slot. refl) later acked.offered_so in
     inl (record {
@@ -549,9 +594,23 @@ acknowledges step steps =
       later = steps.sent;
       sent = steps.written ∙ ap (λ (r : Reply). option_to_list r.packet ++ steps.sent) acked.replied_so;
       once = none_later;
-      says = code_says slots old new step.connection acked.taken offered;
+      says = subst (λ (b : Bool). SaysIf b old step.connection new slots (puback_code (length slots) acked.taken)) (sym acked.allowed) (code_says slots old new step.connection acked.taken offered);
       elsewhere = offered.elsewhere;
     }))
+    (λ (told : Forbidden old step.phase_before step.input steps.reply steps.mid).
+    let none : (slot : ℕ) → AcceptsNone old new slot = λ slot. later slot ∙ told.none slot in
+    inl (record {
+      publish = told.publish;
+      came = told.came;
+      identifier = told.identifier;
+      delivery = told.delivery;
+      code = 0x87;
+      later = steps.sent;
+      sent = steps.written ∙ ap (λ (r : Reply). option_to_list r.packet ++ steps.sent) told.replied_so;
+      once = none_later;
+      says = subst (λ (b : Bool). SaysIf b old step.connection new (matching told.publish.topic old) 0x87) (sym told.forbidden) (none, refl);
+      elsewhere = λ slot no. none slot;
+    })))
     (λ (none : NotAcked old step.input steps.reply steps.mid).
     inr (record {
       sent =

@@ -16,6 +16,8 @@ use Rattle.session_desk.specs.declared.attached.Attached.TheVariants.{New, Resum
 use Rattle.session_desk.specs.declared.error.DeskError.{DeskError}
 use Rattle.session_desk.specs.declared.error.DeskError.TheVariants as errors
 use Rattle.session_desk.specs.declared.session.Membership.{Membership}
+use Rattle.users.specs.Table.{Rights}
+use Rattle.users.specs.Rights.{may_publish}
 use Rattle.conn_rules.specs.Acknowledging.{fate_of}
 use Rattle.conn_rules.specs.declared.publishing.PublishAnswer.{PublishAnswer}
 use Rattle.conn_rules.specs.declared.publishing.PublishAnswer.TheVariants as answers
@@ -25,7 +27,7 @@ use Rattle.conn_supply.specs.declared.reply.Then.{Then}
 use Rattle.conn_supply.specs.declared.reply.Then.TheVariants.{Go, Close, Kicked}
 use Rattle.conn_supply.specs.declared.reply.Reply.{Reply}
 use Rattle.conn_supply.specs.SupplyCalls.SupplyCall.{Attach, Match}
-use Rattle.conn_supply.specs.Publishing.{AnswersPublish, IsOffered}
+use Rattle.conn_supply.specs.Publishing.{AnswersPublish, IsOffered, OffersIf}
 use Rattle.conn_supply.specs.Subscribing.{SubscribesAs, UnsubscribesAs}
 use Rattle.conn_engine.specs.declared.input.Input.{Input}
 use Rattle.conn_engine.specs.declared.input.Input.TheVariants as inputs
@@ -256,10 +258,16 @@ offered ledger old new number now connected publish identifier reply does was =
       tells = tt;
     }
 
-published : (answer : PublishAnswer) (ledger : Ledger) (old new : Broker) (number now : ℕ) (connected : ConnectedClient GroupPlace) (publish : Publish) (reply : Reply)
-    → AnswersPublish Calls old number now publish answer reply new → HoldsClient ledger old connected → Answered ledger old number now connected (packets.Publish publish) connected new
-published (answers.Close code) ledger old new number now connected publish reply does was = calmly ledger old new number now connected connected (packets.Publish publish) tt refl (still old new does.1) was
-published (answers.Offer identifier) ledger old new number now connected publish reply does was = offered ledger old new number now connected publish identifier reply does was
+offered_if : (allowed : Bool) (ledger : Ledger) (old new : Broker) (number now : ℕ) (connected : ConnectedClient GroupPlace) (publish : Publish) (identifier : ℕ) (reply : Reply)
+    → OffersIf Calls allowed old number now publish identifier reply new → HoldsClient ledger old connected → Answered ledger old number now connected (packets.Publish publish) connected new
+offered_if true ledger old new number now connected publish identifier reply does was = offered ledger old new number now connected publish identifier reply does was
+offered_if false ledger old new number now connected publish identifier reply does was = calmly ledger old new number now connected connected (packets.Publish publish) tt refl (still old new does.1) was
+
+published : (rights : Rights) (answer : PublishAnswer) (ledger : Ledger) (old new : Broker) (number now : ℕ) (connected : ConnectedClient GroupPlace) (publish : Publish) (reply : Reply)
+    → AnswersPublish Calls rights old number now publish answer reply new → HoldsClient ledger old connected → Answered ledger old number now connected (packets.Publish publish) connected new
+published rights (answers.Close code) ledger old new number now connected publish reply does was = calmly ledger old new number now connected connected (packets.Publish publish) tt refl (still old new does.1) was
+published rights (answers.Offer identifier) ledger old new number now connected publish reply does was =
+    offered_if (may_publish rights publish.topic) ledger old new number now connected publish identifier reply does was
 
 -- with another membership, through whose place all is out that was
 moved : (ledger : Ledger) (old new : Broker) (connected : ConnectedClient GroupPlace) (membership : Membership GroupPlace) (goes : Goes [] old new)
@@ -270,13 +278,13 @@ moved ledger old new connected membership goes follows was =
     less ledger new connected.session.membership membership entries entries (λ i e c. c) (λ owned. follows new entries owned)
     (calm ledger old new connected.session.membership entries goes was)
 
-subscribed : (refused : Option ℕ) (ledger : Ledger) (old new : Broker) (connected : ConnectedClient GroupPlace) (subscribe : Subscribe) (reply : Reply) (membership : Membership GroupPlace) (subscription : Option ℕ)
-    → SubscribesAs Calls slot_of refused old connected.session.membership connected.session.subscription subscribe reply membership subscription new → HoldsClient ledger old connected
+subscribed : (rights : Rights) (refused : Option ℕ) (ledger : Ledger) (old new : Broker) (connected : ConnectedClient GroupPlace) (subscribe : Subscribe) (reply : Reply) (membership : Membership GroupPlace) (subscription : Option ℕ)
+    → SubscribesAs Calls slot_of refused rights old connected.session.membership connected.session.subscription subscribe reply membership subscription new → HoldsClient ledger old connected
     → Holds ledger new membership (held_of connected.session.window) × AddsIn old.groups [] new.groups
-subscribed (Some code) ledger old new connected subscribe reply membership subscription does was =
+subscribed rights (Some code) ledger old new connected subscribe reply membership subscription does was =
     let goes = still old new does.3 in (moved ledger old new connected membership goes (same_member connected.session.membership membership does.1) was, goes.adds)
-subscribed None ledger old new connected subscribe reply membership subscription does was =
-    let all = entries_answered subscribe.subscriptions old new connected.session.membership does.0 membership does.2 in
+subscribed rights None ledger old new connected subscribe reply membership subscription does was =
+    let all = entries_answered rights subscribe.subscriptions old new connected.session.membership does.0 membership does.2 in
     (moved ledger old new connected membership all.0 all.1 was, all.0.adds)
 
 unsubscribed : (refused : Option ℕ) (ledger : Ledger) (old new : Broker) (connected : ConnectedClient GroupPlace) (unsubscribe : Unsubscribe) (reply : Reply) (membership : Membership GroupPlace)
@@ -304,13 +312,13 @@ answered : (packet : Packet) (ledger : Ledger) (old new : Broker) (number now : 
     → HoldsClient ledger old connected → Answered ledger old number now connected packet connected' new
 answered (packets.Publish publish) ledger old new number now connected connected' reply does was =
     subst (λ (l : ConnectedClient GroupPlace). Answered ledger old number now connected (packets.Publish publish) l new) (sym does.1)
-    (published (publish_answer publish) ledger old new number now connected publish reply does.0 was)
+    (published connected.rights (publish_answer publish) ledger old new number now connected publish reply does.0 was)
 answered (packets.Puback puback) ledger old new number now connected connected' reply does was =
     let acked = acknowledged connected.session.membership ledger old new connected.session.window puback.packet_identifier puback.reason_code does.0.membership does.0.window does.1.settles was in
     subst (λ (l : ConnectedClient GroupPlace). Answered ledger old number now connected (packets.Puback puback) l new) (sym does.2)
     (answers_so ledger old new number now connected _ (packets.Puback puback) acked.settled acked.holds acked.adds acked.exact)
 answered (packets.Subscribe subscribe) ledger old new number now connected connected' reply does was =
-    let both = subscribed (subscribe_refusal subscribe) ledger old new connected subscribe reply does.0 does.1 does.2 was in
+    let both = subscribed connected.rights (subscribe_refusal subscribe) ledger old new connected subscribe reply does.0 does.1 does.2 was in
     subst (λ (l : ConnectedClient GroupPlace). Answered ledger old number now connected (packets.Subscribe subscribe) l new) (sym does.3)
     (answers_so ledger old new number now connected _ (packets.Subscribe subscribe) [] both.0 both.1 tt)
 answered (packets.Unsubscribe unsubscribe) ledger old new number now connected connected' reply does was =

@@ -609,7 +609,7 @@ all_come step publish [] came = tt
 all_come step publish (slot ∷ slots) came = ((publish, came, refl), all_come step publish slots came)
 
 have_come : (step : TakenStep) (supply_calls : List (SupplyCall GroupPlace)) (next : Then)
-    → OffersToEach step.connection step.at step.input supply_calls ⊎ OffersNone step.phase_before step.input supply_calls next → AllByRecursion (HasCome (IsMessageOf step)) (offered supply_calls)
+    → OffersToEach step.connection step.at step.phase_before step.input supply_calls ⊎ OffersNone step.phase_before step.input supply_calls next → AllByRecursion (HasCome (IsMessageOf step)) (offered supply_calls)
 have_come step supply_calls next (inl each) = subst (AllByRecursion (HasCome (IsMessageOf step))) (sym each.offers) (all_come step each.publish each.slots each.came)
 have_come step supply_calls next (inr none) = subst (AllByRecursion (HasCome (IsMessageOf step))) (sym none.offers) tt
 

@@ -1,5 +1,5 @@
 -- The session of a connection is handed in, and memberships change: what is held stays out.
-use Rattle.std.proofs.Common.{◌≡◌, ◌⊎◌, ℕ, List, [], ◌∷◌, Option, Some, None, Result, Ok, Err, Contains, refl, sym, ap, subst, ◌∙◌, inl, inr, ⊎_elim}
+use Rattle.std.proofs.Common.{false, true, Bool, ◌≡◌, ◌⊎◌, ℕ, List, [], ◌∷◌, Option, Some, None, Result, Ok, Err, Contains, refl, sym, ap, subst, ◌∙◌, inl, inr, ⊎_elim}
 use Rattle.mqtt_topic.specs.declared.error.TopicError.{TopicError}
 use Rattle.mqtt_topic.specs.Names.{Share, share_of}
 use Rattle.mqtt_packet.specs.declared.packet.Subscription.{Subscription}
@@ -7,6 +7,8 @@ use Rattle.group_jobs.specs.Stamps.{Held}
 use Rattle.group_jobs.specs.declared.stamp.Stamp.{Stamp}
 use Rattle.member_window.specs.Contents.{held_of}
 use Rattle.member_window.proofs.Lists.{contains_nil}
+use Rattle.users.specs.Table.{Rights}
+use Rattle.users.specs.Rights.{may_work}
 use Rattle.conn_rules.specs.declared.subscribing.EntryAnswer.{EntryAnswer}
 use Rattle.conn_rules.specs.declared.subscribing.EntryAnswer.TheVariants as entries
 use Rattle.conn_rules.specs.Subscribing.{entry_answer}
@@ -19,7 +21,7 @@ use Rattle.conn_supply.specs.declared.supply.BindRefusal.{BindRefusal}
 use Rattle.conn_supply.specs.declared.supply.BindRefusal.TheVariants as refusal
 use Rattle.conn_supply.specs.SupplyCalls.{SupplyCall}
 use Rattle.conn_supply.specs.SupplyCalls.SupplyCall.{Park, ParkAsIs, LendPlace, Bind, Find}
-use Rattle.conn_supply.specs.Subscribing.{IsLent, EntersAs, Joins, AnswersEntry, AnswersEntries, LeavesBy, LeavesByAll}
+use Rattle.conn_supply.specs.Subscribing.{IsLent, EntersAs, Joins, AnswersEntry, AnswersEntries, LeavesBy, LeavesByAll, JoinsIf}
 use Rattle.conn_engine.specs.Ending.{down, PartsAs, Parts}
 use Rattle.local_broker.specs.Places.{GroupPlace}
 use Rattle.local_broker.specs.Broker.{Broker}
@@ -179,18 +181,23 @@ joined (Leaving place) old new share code membership' does = (
   ⊎_elim (λ stays. λ b entries owned. same_member (Member place) membership' stays.2 b entries owned) (λ stays. same_member (Leaving place) membership' stays.2) does.2,
 )
 
-entry_answered : (answer : EntryAnswer) (old new : Broker) (membership : Membership GroupPlace) (code : ℕ) (membership' : Membership GroupPlace)
-    → AnswersEntry Calls slot_of old membership answer code membership' new → Moves membership membership' old new
-entry_answered (entries.Refuse refused) old new membership code membership' answers = (still old new answers.2, same_member membership membership' answers.1)
-entry_answered (entries.Join share) old new membership code membership' answers = joined membership old new share code membership' answers
+joined_if : (allowed : Bool) (membership : Membership GroupPlace) (old new : Broker) (share : Share) (code : ℕ) (membership' : Membership GroupPlace)
+    → JoinsIf Calls slot_of allowed old membership share code membership' new → Moves membership membership' old new
+joined_if true membership old new share code membership' does = joined membership old new share code membership' does
+joined_if false membership old new share code membership' does = (still old new does.2, same_member membership membership' does.1)
 
-pub entries_answered : (subscriptions : List Subscription) (old new : Broker) (membership : Membership GroupPlace) (codes : List ℕ)
+entry_answered : (rights : Rights) (answer : EntryAnswer) (old new : Broker) (membership : Membership GroupPlace) (code : ℕ) (membership' : Membership GroupPlace)
+    → AnswersEntry Calls slot_of rights old membership answer code membership' new → Moves membership membership' old new
+entry_answered rights (entries.Refuse refused) old new membership code membership' answers = (still old new answers.2, same_member membership membership' answers.1)
+entry_answered rights (entries.Join share) old new membership code membership' answers = joined_if (may_work rights share.text) membership old new share code membership' answers
+
+pub entries_answered : (rights : Rights) (subscriptions : List Subscription) (old new : Broker) (membership : Membership GroupPlace) (codes : List ℕ)
     (membership' : Membership GroupPlace)
-    → AnswersEntries Calls slot_of old membership subscriptions codes membership' new → Moves membership membership' old new
-entries_answered [] old new membership codes membership' answers = (still old new answers.2, same_member membership membership' answers.1)
-entries_answered (entry ∷ others) old new membership codes membership' answers =
-    let first = entry_answered (entry_answer entry) old answers.3 membership answers.0 answers.2 answers.4 in
-    let rest = entries_answered others answers.3 new answers.2 answers.1 membership' answers.5 in
+    → AnswersEntries Calls slot_of rights old membership subscriptions codes membership' new → Moves membership membership' old new
+entries_answered rights [] old new membership codes membership' answers = (still old new answers.2, same_member membership membership' answers.1)
+entries_answered rights (entry ∷ others) old new membership codes membership' answers =
+    let first = entry_answered rights (entry_answer entry) old answers.3 membership answers.0 answers.2 answers.4 in
+    let rest = entries_answered rights others answers.3 new answers.2 answers.1 membership' answers.5 in
     (calm_then old answers.3 new first.0 rest.0, λ b held owned. rest.1 b held (first.1 b held owned))
 
 left : (membership : Membership GroupPlace) (parsed : Result Share TopicError) (old new : Broker) (code : ℕ) (membership' : Membership GroupPlace)

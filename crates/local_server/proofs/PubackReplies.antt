@@ -11,6 +11,7 @@ use Rattle.session_desk.specs.declared.error.DeskError.{DeskError}
 use Rattle.session_desk.specs.declared.error.DeskError.TheVariants as errors
 use Rattle.session_desk.specs.declared.session.Membership.{Membership}
 use Rattle.session_desk.specs.declared.session.Session.{Session}
+use Rattle.users.specs.Table.{Rights}
 use Rattle.conn_rules.specs.declared.connecting.FirstAnswer.{FirstAnswer}
 use Rattle.conn_rules.specs.declared.connecting.FirstAnswer.TheVariants as first
 use Rattle.conn_rules.specs.declared.limits.ClientLimits.{ClientLimits}
@@ -102,10 +103,10 @@ module _ {S P : Type 0} (call : S → SupplyCall P → S → Type 0) (slot_of : 
   answers_first first.Attach old new number limits now packet phase reply is = attached is.2.answer is.2.mid new _ 0 phase reply is.2.answered
 
   -- what a connection with its session answers
-  subscribed : (refusal : Option ℕ) (old new : S) (membership membership' : Membership P) (subscription subscription' : Option ℕ) (subscribe : Subscribe) (reply : Reply)
-      → SubscribesAs call slot_of refusal old membership subscription subscribe reply membership' subscription' new → IsNoPuback reply
-  subscribed (Some code) old new membership membership' subscription subscription' subscribe reply is = told reply _ is.0 refl
-  subscribed None old new membership membership' subscription subscription' subscribe reply is = told reply _ is.1 refl
+  subscribed : (rights : Rights) (refusal : Option ℕ) (old new : S) (membership membership' : Membership P) (subscription subscription' : Option ℕ) (subscribe : Subscribe) (reply : Reply)
+      → SubscribesAs call slot_of refusal rights old membership subscription subscribe reply membership' subscription' new → IsNoPuback reply
+  subscribed rights (Some code) old new membership membership' subscription subscription' subscribe reply is = told reply _ is.0 refl
+  subscribed rights None old new membership membership' subscription subscription' subscribe reply is = told reply _ is.1 refl
 
   unsubscribed : (refusal : Option ℕ) (old new : S) (membership membership' : Membership P) (unsubscribe : Unsubscribe) (reply : Reply)
       → UnsubscribesAs call slot_of refusal old membership unsubscribe reply membership' new → IsNoPuback reply
@@ -116,7 +117,7 @@ module _ {S P : Type 0} (call : S → SupplyCall P → S → Type 0) (slot_of : 
   answered (packets.Publish publish) old new number now connected after reply other is = absurd (other publish refl)
   answered (packets.Puback puback) old new number now connected after reply other is = told reply _ is.3 refl
   answered (packets.Subscribe subscribe) old new number now connected after reply other is =
-      subscribed (subscribe_refusal subscribe) old new connected.session.membership is.0 connected.session.subscription is.1 subscribe reply is.2
+      subscribed connected.rights (subscribe_refusal subscribe) old new connected.session.membership is.0 connected.session.subscription is.1 subscribe reply is.2
   answered (packets.Unsubscribe unsubscribe) old new number now connected after reply other is =
       unsubscribed (unsubscribe_refusal unsubscribe) old new connected.session.membership is.0 unsubscribe reply is.1
   answered packets.Pingreq old new number now connected after reply other is = told reply _ is.1 refl

@@ -24,6 +24,8 @@ use Rattle.session_desk.specs.Hands.{DeskLaw}
 use Rattle.session_desk.specs.Keeping.{Parks, ParksAsIs, EndsLent, parked_at}
 use Rattle.session_desk.specs.Rows.{Rows, HasRow, away, with_holder}
 use Rattle.session_desk.proofs.Seen.{after_insert}
+use Rattle.users.specs.Table.{Rights}
+use Rattle.users.specs.Rights.{may_publish}
 use Rattle.conn_rules.specs.declared.connecting.FirstAnswer.{FirstAnswer}
 use Rattle.conn_rules.specs.declared.connecting.FirstAnswer.TheVariants as first
 use Rattle.conn_rules.specs.declared.publishing.PublishAnswer.{PublishAnswer}
@@ -38,7 +40,7 @@ use Rattle.conn_supply.specs.declared.reply.Reply.{Reply}
 use Rattle.conn_supply.specs.declared.reply.Then.{Then}
 use Rattle.conn_supply.specs.declared.reply.Then.TheVariants.{Go, Close, Kicked}
 use Rattle.conn_supply.specs.Acknowledging.{Settles, AcknowledgesFor}
-use Rattle.conn_supply.specs.Publishing.{Offers, AnswersPublish}
+use Rattle.conn_supply.specs.Publishing.{AnswersPublish, Offers, OffersIf}
 use Rattle.conn_supply.specs.SupplyCalls.{SupplyCall}
 use Rattle.conn_supply.specs.SupplyCalls.SupplyCall.{Attach, Withdraw, Park, ParkAsIs, Kicked as WasKicked}
 use Rattle.conn_engine.specs.declared.input.Input.{Input}
@@ -267,10 +269,14 @@ module _ (n : ℕ) where
   offers [] old new connection taken message is = ap (λ (b : Broker). b.desk) is.1
   offers (slot ∷ slots) old new connection taken message is = offers slots is.1 new connection is.3 message is.6 ∙ is.4.1.desk
 
-  publishes : (answer : PublishAnswer) (old new : Broker) (number now : ℕ) (publish : Publish) (reply : Reply) → AnswersPublish Calls old number now publish answer reply new → new.desk ≡ old.desk
-  publishes (answers.Close code) old new number now publish reply is = ap (λ (b : Broker). b.desk) is.1
-  publishes (answers.Offer identifier) old new number now publish reply is =
+  offers_if : (allowed : Bool) (identifier : ℕ) (old new : Broker) (number now : ℕ) (publish : Publish) (reply : Reply) → OffersIf Calls allowed old number now publish identifier reply new → new.desk ≡ old.desk
+  offers_if true identifier old new number now publish reply is =
       offers is.slots is.mid new number is.taken (message_of now publish) is.offered ∙ ap (λ (b : Broker). b.desk) is.matched.1
+  offers_if false identifier old new number now publish reply is = ap (λ (b : Broker). b.desk) is.1
+
+  publishes : (rights : Rights) (answer : PublishAnswer) (old new : Broker) (number now : ℕ) (publish : Publish) (reply : Reply) → AnswersPublish Calls rights old number now publish answer reply new → new.desk ≡ old.desk
+  publishes rights (answers.Close code) old new number now publish reply is = ap (λ (b : Broker). b.desk) is.1
+  publishes rights (answers.Offer identifier) old new number now publish reply is = offers_if (may_publish rights publish.topic) identifier old new number now publish reply is
 
   settles : (found : Option Held) (old new : Broker) (place place' : GroupPlace) (code : ℕ) → Settles Calls old place code found place' new → new.desk ≡ old.desk
   settles None old new place place' code is = ap (λ (b : Broker). b.desk) is.1
@@ -284,12 +290,12 @@ module _ (n : ℕ) where
 
   answers_there : (packet : Packet) (old new : Broker) (number now : ℕ) (connected connected' : ConnectedClient GroupPlace) (reply : Reply)
       → Answers Calls slot_of old number connected now packet connected' reply new → IsOutThere n old.desk → IsOutThere n new.desk
-  answers_there (packets.Publish publish) old new number now connected connected' reply is was = same_desk old new (publishes (publish_answer publish) old new number now publish reply is.0) was
+  answers_there (packets.Publish publish) old new number now connected connected' reply is was = same_desk old new (publishes connected.rights (publish_answer publish) old new number now publish reply is.0) was
   answers_there (packets.Puback puback) old new number now connected connected' reply is was =
       same_desk old new
       (acknowledges connected.session.membership is.0.membership old new connected.session.window is.0.window puback.packet_identifier puback.reason_code is.1.settles) was
   answers_there (packets.Subscribe subscribe) old new number now connected connected' reply is was =
-      let calls = asides.subscribed_as Calls slot_of (subscribe_refusal subscribe) old new connected.session.membership connected.session.subscription subscribe reply is.0 is.1 is.2 in
+      let calls = asides.subscribed_as Calls slot_of connected.rights (subscribe_refusal subscribe) old new connected.session.membership connected.session.subscription subscribe reply is.0 is.1 is.2 in
       leads old new (record { supply_calls = calls.supply_calls; made = calls.made; aside = calls.aside }) was
   answers_there (packets.Unsubscribe unsubscribe) old new number now connected connected' reply is was =
       let calls = asides.unsubscribed_as Calls slot_of (unsubscribe_refusal unsubscribe) old new connected.session.membership unsubscribe reply is.0 is.1 in

@@ -16,6 +16,8 @@ use Rattle.member_window.proofs.Lists.{contains_here, contains_there, contains_c
 use Rattle.member_window.specs.Contents.{Contents, after_resend}
 use Rattle.session_desk.specs.declared.session.Membership.{Membership}
 use Rattle.session_desk.specs.declared.session.Membership.TheVariants.{NotMember, Member, Leaving}
+use Rattle.users.specs.Table.{Rights}
+use Rattle.users.specs.Rights.{may_work}
 use Rattle.conn_rules.specs.declared.hand_outs.HandOutTerms.{HandOutTerms}
 use Rattle.conn_rules.specs.declared.subscribing.EntryAnswer.{EntryAnswer}
 use Rattle.conn_rules.specs.declared.subscribing.EntryAnswer.TheVariants as entries
@@ -28,7 +30,7 @@ use Rattle.conn_supply.specs.declared.supply.BindRefusal.{BindRefusal}
 use Rattle.conn_supply.specs.declared.supply.BindRefusal.TheVariants as refusal
 use Rattle.conn_supply.specs.HandOuts.{SendsAgain, LeavesWith, HandsFresh}
 use Rattle.conn_supply.specs.Replies.{going_on}
-use Rattle.conn_supply.specs.Subscribing.{IsLent, EntersAs, Joins as JoinsShare, AnswersEntry, AnswersEntries, SubscribesAs, LeavesBy, LeavesByAll, UnsubscribesAs}
+use Rattle.conn_supply.specs.Subscribing.{IsLent, EntersAs, Joins as JoinsShare, AnswersEntry, AnswersEntries, SubscribesAs, LeavesBy, LeavesByAll, UnsubscribesAs, JoinsIf}
 use Rattle.conn_supply.specs.Acknowledging.{AcknowledgesFor}
 use Rattle.conn_engine.specs.declared.input.Input.{Input}
 use Rattle.conn_engine.specs.declared.input.Input.TheVariants as inputs
@@ -89,18 +91,23 @@ joined (Member place) membership' old new share code out refused does = absurd o
 joined (Leaving place) membership' old new share code out refused does =
     ⊎_elim (λ stays. absurd (refused stays.1)) (λ stays. no_member membership' (Leaving place) stays.2 tt) does.2
 
-entry_answered : (answer : EntryAnswer) (membership membership' : Membership GroupPlace) (old new : Broker) (code : ℕ) → IsNoMember membership → code ≢ 0x01
-    → AnswersEntry Calls slot_of old membership answer code membership' new → IsNoMember membership'
-entry_answered (entries.Refuse refused) membership membership' old new code out other does = no_member membership' membership does.1 out
-entry_answered (entries.Join share) membership membership' old new code out other does = joined membership membership' old new share code out other does
+joined_if : (allowed : Bool) (membership membership' : Membership GroupPlace) (old new : Broker) (share : Share) (code : ℕ) → IsNoMember membership → code ≢ 0x01
+    → JoinsIf Calls slot_of allowed old membership share code membership' new → IsNoMember membership'
+joined_if true membership membership' old new share code out refused does = joined membership membership' old new share code out refused does
+joined_if false membership membership' old new share code out refused does = no_member membership' membership does.1 out
 
-entries_answered : (subscriptions : List Subscription) (membership membership' : Membership GroupPlace) (old new : Broker) (codes : List ℕ) → IsNoMember membership → ¬ Contains codes 0x01
-    → AnswersEntries Calls slot_of old membership subscriptions codes membership' new → IsNoMember membership'
-entries_answered [] membership membership' old new codes out none does = no_member membership' membership does.1 out
-entries_answered (entry ∷ others) membership membership' old new codes out none does =
+entry_answered : (rights : Rights) (answer : EntryAnswer) (membership membership' : Membership GroupPlace) (old new : Broker) (code : ℕ) → IsNoMember membership → code ≢ 0x01
+    → AnswersEntry Calls slot_of rights old membership answer code membership' new → IsNoMember membership'
+entry_answered rights (entries.Refuse refused) membership membership' old new code out other does = no_member membership' membership does.1 out
+entry_answered rights (entries.Join share) membership membership' old new code out other does = joined_if (may_work rights share.text) membership membership' old new share code out other does
+
+entries_answered : (rights : Rights) (subscriptions : List Subscription) (membership membership' : Membership GroupPlace) (old new : Broker) (codes : List ℕ) → IsNoMember membership → ¬ Contains codes 0x01
+    → AnswersEntries Calls slot_of rights old membership subscriptions codes membership' new → IsNoMember membership'
+entries_answered rights [] membership membership' old new codes out none does = no_member membership' membership does.1 out
+entries_answered rights (entry ∷ others) membership membership' old new codes out none does =
     let none' : ¬ Contains (does.0 ∷ does.1) 0x01 = subst (λ (l : List ℕ). ¬ Contains l 0x01) does.6 none in
-    entries_answered others does.2 membership' does.3 new does.1
-    (entry_answered (entry_answer entry) membership does.2 old does.3 does.0 out
+    entries_answered rights others does.2 membership' does.3 new does.1
+    (entry_answered rights (entry_answer entry) membership does.2 old does.3 does.0 out
     (λ is. none' (subst (λ (n : ℕ). Contains (does.0 ∷ does.1) n) is (contains_here does.0 does.1))) does.4)
     (λ has. none' (contains_there does.0 does.1 0x01 has)) does.5
 
@@ -139,12 +146,12 @@ abbrev pub GrantsNone : Input → Reply → Type 0
 GrantsNone input reply =
     (subscribe : Subscribe) (codes : List ℕ) → input ≡ inputs.Packet (packets.Subscribe subscribe) → reply ≡ going_on (Some (suback subscribe.packet_identifier codes)) → ¬ Contains codes 0x01
 
-subscribed : (refused : Option ℕ) (membership membership' : Membership GroupPlace) (subscription subscription' : Option ℕ) (old new : Broker) (subscribe : Subscribe) (reply : Reply)
+subscribed : (rights : Rights) (refused : Option ℕ) (membership membership' : Membership GroupPlace) (subscription subscription' : Option ℕ) (old new : Broker) (subscribe : Subscribe) (reply : Reply)
     → IsNoMember membership → GrantsNone (inputs.Packet (packets.Subscribe subscribe)) reply
-    → SubscribesAs Calls slot_of refused old membership subscription subscribe reply membership' subscription' new → IsNoMember membership'
-subscribed (Some code) membership membership' subscription subscription' old new subscribe reply out none does = no_member membership' membership does.1 out
-subscribed None membership membership' subscription subscription' old new subscribe reply out none does =
-    entries_answered subscribe.subscriptions membership membership' old new does.0 out (none subscribe does.0 refl does.1) does.2
+    → SubscribesAs Calls slot_of refused rights old membership subscription subscribe reply membership' subscription' new → IsNoMember membership'
+subscribed rights (Some code) membership membership' subscription subscription' old new subscribe reply out none does = no_member membership' membership does.1 out
+subscribed rights None membership membership' subscription subscription' old new subscribe reply out none does =
+    entries_answered rights subscribe.subscriptions membership membership' old new does.0 out (none subscribe does.0 refl does.1) does.2
 
 unsubscribed : (refused : Option ℕ) (membership membership' : Membership GroupPlace) (old new : Broker) (unsubscribe : Unsubscribe) (reply : Reply) → IsNoMember membership
     → UnsubscribesAs Calls slot_of refused old membership unsubscribe reply membership' new → IsNoMember membership'
@@ -177,7 +184,7 @@ answered (packets.Puback puback) old new number now connected connected' reply o
     same _ connected' does.2 (acknowledged connected.session.membership does.0.membership old new connected.session.window does.0.window puback.packet_identifier puback.reason_code out does.1.settles)
 answered (packets.Subscribe subscribe) old new number now connected connected' reply out none does =
     same _ connected' does.3
-    (subscribed (subscribe_refusal subscribe) connected.session.membership does.0 connected.session.subscription does.1 old new subscribe reply out none does.2)
+    (subscribed connected.rights (subscribe_refusal subscribe) connected.session.membership does.0 connected.session.subscription does.1 old new subscribe reply out none does.2)
 answered (packets.Unsubscribe unsubscribe) old new number now connected connected' reply out none does =
     same _ connected' does.2 (unsubscribed (unsubscribe_refusal unsubscribe) connected.session.membership does.0 old new unsubscribe reply out does.1)
 answered packets.Pingreq old new number now connected connected' reply out none does = same connected connected' does.0 out

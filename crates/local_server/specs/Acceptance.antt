@@ -1,5 +1,5 @@
 -- What a PUBACK says of the message of a PUBLISH: which groups accepted it (sections 3.3.4 and 3.4.2.1).
-use Rattle.std.specs.Prelude.{◌≡◌, ◌≢◌, ◌⊎◌, ℕ, List, [], ◌∷◌, ◌++◌, filter_map, Option, Some, None, Contains, slice_get}
+use Rattle.std.specs.Prelude.{◌≡◌, ◌≢◌, ◌⊎◌, ℕ, Bool, true, false, List, [], ◌∷◌, ◌++◌, filter_map, Option, Some, None, Contains, slice_get}
 use Rattle.std.specs.List.{AllByRecursion}
 use Rattle.mqtt_packet.specs.declared.packet.Delivery.TheVariants.{AtLeastOnce}
 use Rattle.mqtt_packet.specs.declared.packet.Packet.{Packet}
@@ -11,6 +11,7 @@ use Rattle.local_group.specs.Groups.{Group}
 use Rattle.conn_rules.specs.Packets.{puback}
 use Rattle.conn_supply.specs.declared.reply.Then.TheVariants.{Go}
 use Rattle.conn_engine.specs.declared.input.Input.TheVariants as inputs
+use Rattle.conn_laws.specs.Calls.{is_allowed}
 use Rattle.local_broker.specs.Broker.{Broker}
 use Rattle.local_server.specs.Messages.{accepted_in_all}
 use Rattle.local_server.specs.TakenSteps.{TakenStep}
@@ -45,6 +46,11 @@ pub data Says (old : Broker) (connection : ℕ) (new : Broker) (slots : List ℕ
   OneRefuses : (slot : ℕ) → Contains slots slot → AcceptsNone old new slot → AllByRecursion (λ each. AcceptsOne old connection new each ⊎ AcceptsNone old new each) slots → code ≡ 0x97
       → Says old connection new slots code
 
+-- the same where the client may publish to the topic, and 87 where it may not: then no group accepted it (3.4.2.1)
+abbrev pub SaysIf : (allowed : Bool) → Broker → ℕ → Broker → List ℕ → ℕ → Type 0
+SaysIf true old connection new slots code = Says old connection new slots code
+SaysIf false old connection new slots code = ((slot : ℕ) → AcceptsNone old new slot) × (code ≡ 0x87)
+
 -- the PUBACK packets among those that are sent
 abbrev pub puback_in : Packet → Option Puback
 puback_in (packets.Puback puback) = Some puback
@@ -64,7 +70,7 @@ pub record Acknowledges (step : TakenStep) : Type 0 where
   pub later : List Packet
   pub sent : step.packets ≡ puback identifier code ∷ later
   pub once : pubacks_in later ≡ []
-  pub says : Says step.broker_before step.connection step.broker_after (matching publish.topic step.broker_before) code
+  pub says : SaysIf (is_allowed step.phase_before publish) step.broker_before step.connection step.broker_after (matching publish.topic step.broker_before) code
   pub elsewhere : (slot : ℕ) → ¬ Contains (matching publish.topic step.broker_before) slot → AcceptsNone step.broker_before step.broker_after slot
 
 -- nothing is acknowledged in a step, and nothing is accepted in it; and where a PUBLISH of QoS 1 came, the connection does not go on

@@ -108,7 +108,7 @@ fn answers_as_text(rt: HostRuntime) -> Result<(), Fail> {
     let text = String::from_utf8(service.exposition()?)?;
     let families: [(&str, usize); 4] = [
         ("share_broker_connacks_total{code=\"0x", 8),
-        ("share_broker_pubacks_total{code=\"0x", 3),
+        ("share_broker_pubacks_total{code=\"0x", 4),
         ("share_broker_subacks_total{code=\"0x", 5),
         ("share_broker_disconnects_total{code=\"0x", 10),
     ];

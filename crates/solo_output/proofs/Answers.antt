@@ -14,6 +14,9 @@ use Rattle.session_desk.specs.declared.session.Session.{Session}
 use Rattle.session_desk.specs.declared.session.Membership.{Membership}
 use Rattle.session_desk.specs.declared.session.Membership.TheVariants.{NotMember, Member, Leaving}
 use Rattle.session_desk.specs.Rows.{Rows}
+use Rattle.users.specs.Table.{Rights}
+use Rattle.users.specs.Rights.{all_rights}
+use Rattle.users.proofs.Allowed.{everything_may_be_published}
 use Rattle.conn_rules.specs.declared.publishing.PublishAnswer.{PublishAnswer}
 use Rattle.conn_rules.specs.declared.publishing.PublishAnswer.TheVariants as publishing
 use Rattle.conn_rules.specs.Connecting.{is_given_expiry, granted_expiry}
@@ -24,9 +27,9 @@ use Rattle.conn_rules.specs.Subscribing.{subscribe_refusal, unsubscribe_refusal}
 use Rattle.conn_supply.specs.declared.reply.Then.TheVariants.{Go, Close}
 use Rattle.conn_supply.specs.declared.reply.Reply.{Reply as ConnReply}
 use Rattle.conn_supply.specs.Memberships.{with_window, with_membership as having}
-use Rattle.conn_supply.specs.Publishing.{Offers, AnswersPublish}
+use Rattle.conn_supply.specs.Publishing.{AnswersPublish, IsOffered, Offers, OffersIf, Publishes}
 use Rattle.conn_supply.specs.Acknowledging.{AcknowledgesFor}
-use Rattle.conn_supply.specs.Subscribing.{SubscribesAs, UnsubscribesAs, subscription_after}
+use Rattle.conn_supply.specs.Subscribing.{SubscribesAs, UnsubscribesAs, subscription_after, Subscribes}
 use Rattle.conn_engine.specs.declared.phase.ConnectedClient.{ConnectedClient}
 use Rattle.conn_engine.specs.Answering.{Answers, Disconnects, DisconnectsIf, joining, subscribing, expiring}
 use Rattle.local_broker.specs.Places.{GroupPlace}
@@ -74,10 +77,9 @@ module _ (solo : SoloState) (connected : ConnectedClient GroupPlace) (old : Brok
       }
 
   -- ---- a PUBLISH
-  publishes : (publish : Publish) (answer : PublishAnswer) (connected' : ConnectedClient GroupPlace) (reply : ConnReply) (new : Broker) → connected' ≡ connected → AnswersPublish Calls old 0 0 publish answer reply new
-      → Answered (publish_reply_as answer publish solo) connected' reply new
-  publishes publish (publishing.Close code) connected' reply new same does = closes _ connected' reply new same does.0 does.1
-  publishes publish (publishing.Offer identifier) connected' reply new same does =
+  offers_own : (publish : Publish) (identifier : ℕ) (connected' : ConnectedClient GroupPlace) (reply : ConnReply) (new : Broker) → connected' ≡ connected → IsOffered Calls old 0 0 publish identifier reply new
+      → Answered (publish_reply_as (publishing.Offer identifier) publish solo) connected' reply new
+  offers_own publish identifier connected' reply new same does =
       let slots : does.slots ≡ matching publish.topic solo = does.matched.0 ∙ ap (λ (l : List Share). places_of 0 (routed publish.topic l)) shows.session.broker.routes in
       let start : ShowsBroker solo connected.session.window.owed does.mid = subst (ShowsBroker solo connected.session.window.owed) (sym does.matched.1) shows.session.broker in
       let all =
@@ -87,23 +89,30 @@ module _ (solo : SoloState) (connected : ConnectedClient GroupPlace) (old : Brok
       let behind = (offer_to (matching publish.topic solo) (message_of 0 publish) solo).solo in
       let session : ShowsSession behind connected.session new =
       session_kept solo behind connected.session old new keeps all.shows (all.desk ∙ ap (λ (b : Broker). b.desk) does.matched.1) shows.session in
-      let now : ShowsClient behind connected new = record { session = session; terms = shows.terms ∙ sym keeps.same.terms; phase = keeps.same.phase ∙ shows.phase } in
+      let now : ShowsClient behind connected new = record { session = session; terms = shows.terms ∙ sym keeps.same.terms; rights = shows.rights; phase = keeps.same.phase ∙ shows.phase } in
       record {
         told = ap (λ (r : ConnReply). r.packet) does.replied ∙ (λ i. Some (puback identifier (puback_code (length (slots i)) (all.taken_is i))));
         stands = inl (ap (λ (r : ConnReply). r.next) does.replied, subst (λ (l : ConnectedClient GroupPlace). ShowsClient behind l new) (sym same) now);
       }
 
+  publishes : (publish : Publish) (answer : PublishAnswer) (connected' : ConnectedClient GroupPlace) (reply : ConnReply) (new : Broker) → connected' ≡ connected → AnswersPublish Calls all_rights old 0 0 publish answer reply new
+      → Answered (publish_reply_as answer publish solo) connected' reply new
+  publishes publish (publishing.Close code) connected' reply new same does = closes _ connected' reply new same does.0 does.1
+  publishes publish (publishing.Offer identifier) connected' reply new same does =
+      offers_own publish identifier connected' reply new same
+      (subst (λ (b : Bool). OffersIf Calls b old 0 0 publish identifier reply new) (everything_may_be_published publish.topic) does)
+
   -- ---- a PUBACK
   module _ (identifier code : ℕ) (session : Session Held GroupPlace) (new : Broker) (connected' : ConnectedClient GroupPlace) (reply : ConnReply)
       (is : reply ≡ record { packet = None; next = Go }) (same : session ≡ having (with_window connected.session session.window) session.membership)
-      (has_connected : connected' ≡ record { session = session; terms = connected.terms; heard = connected.heard }) where
+      (has_connected : connected' ≡ record { session = session; terms = connected.terms; rights = connected.rights; heard = connected.heard }) where
     gone_on : ShowsSession (with_puback identifier code solo) session new → Answered (record { packet = None; solo = with_puback identifier code solo }) connected' reply new
     gone_on now =
         record {
           told = ap (λ (r : ConnReply). r.packet) is;
           stands = inl (
             ap (λ (r : ConnReply). r.next) is,
-            subst (λ (l : ConnectedClient GroupPlace). ShowsClient (with_puback identifier code solo) l new) (sym has_connected) (record { session = now; terms = shows.terms; phase = shows.phase }),
+            subst (λ (l : ConnectedClient GroupPlace). ShowsClient (with_puback identifier code solo) l new) (sym has_connected) (record { session = now; terms = shows.terms; rights = shows.rights; phase = shows.phase }),
           );
         }
 
@@ -149,7 +158,7 @@ module _ (solo : SoloState) (connected : ConnectedClient GroupPlace) (old : Brok
   -- ---- a SUBSCRIBE and an UNSUBSCRIBE
   subscribes : (subscribe : Subscribe) (refusal : Option ℕ) (membership : Membership GroupPlace) (subscription : Option ℕ) (connected' : ConnectedClient GroupPlace) (reply : ConnReply) (new : Broker)
       → connected' ≡ subscribing connected membership subscription
-      → SubscribesAs Calls slot_at refusal old connected.session.membership connected.session.subscription subscribe reply membership subscription new → Answered (subscribe_reply_as refusal subscribe solo) connected' reply new
+      → SubscribesAs Calls slot_at refusal all_rights old connected.session.membership connected.session.subscription subscribe reply membership subscription new → Answered (subscribe_reply_as refusal subscribe solo) connected' reply new
   subscribes subscribe (Some code) membership subscription connected' reply new has_connected does =
       closes _ connected' reply new (has_connected ∙ (λ i. subscribing connected (does.1 i) (does.2 i))) does.0 does.3
   subscribes subscribe None membership subscription connected' reply new has_connected (codes, is, does, after) =
@@ -165,7 +174,7 @@ module _ (solo : SoloState) (connected : ConnectedClient GroupPlace) (old : Brok
         stands = inl (
           ap (λ (r : ConnReply). r.next) is,
           subst (λ (l : ConnectedClient GroupPlace). ShowsClient behind l new) (sym (has_connected ∙ ap (subscribing connected membership) same))
-              (record { session = session; terms = shows.terms ∙ sym all.terms; phase = all.phase ∙ shows.phase }),
+              (record { session = session; terms = shows.terms ∙ sym all.terms; rights = shows.rights; phase = all.phase ∙ shows.phase }),
         );
       }
 
@@ -179,7 +188,7 @@ module _ (solo : SoloState) (connected : ConnectedClient GroupPlace) (old : Brok
         told = ap (λ (r : ConnReply). r.packet) is ∙ ap (λ (l : List ℕ). Some (unsuback unsubscribe.packet_identifier l)) all.codes_are;
         stands = inl (
           ap (λ (r : ConnReply). r.next) is,
-          subst (λ (l : ConnectedClient GroupPlace). ShowsClient behind l new) (sym has_connected) (record { session = all.shows; terms = shows.terms ∙ sym all.terms; phase = all.phase ∙ shows.phase }),
+          subst (λ (l : ConnectedClient GroupPlace). ShowsClient behind l new) (sym has_connected) (record { session = all.shows; terms = shows.terms ∙ sym all.terms; rights = shows.rights; phase = all.phase ∙ shows.phase }),
         );
       }
 
@@ -223,13 +232,16 @@ module _ (solo : SoloState) (connected : ConnectedClient GroupPlace) (old : Brok
       disconnects_if (is_given_expiry seconds connected.terms) seconds connected' reply new (ap (is_given_expiry seconds) (sym shows.terms)) does still
 
   pub answers : (packet : Packet) (connected' : ConnectedClient GroupPlace) (reply : ConnReply) (new : Broker) → Answers Calls slot_at old 0 connected 0 packet connected' reply new → Answered (later_reply packet solo) connected' reply new
-  answers (packets.Publish publish) connected' reply new does = publishes publish (publish_answer publish) connected' reply new does.1 does.0
+  answers (packets.Publish publish) connected' reply new does =
+      publishes publish (publish_answer publish) connected' reply new does.1 (subst (λ (r : Rights). Publishes Calls r old 0 0 publish reply new) shows.rights does.0)
   answers (packets.Puback puback) connected' reply new (session, acks, has_connected, is) =
       let identifier = puback.packet_identifier in
       let code = puback.reason_code in
       let its = subst (λ (m : Membership GroupPlace). AcknowledgesFor Calls old m connected.session.window identifier code session.membership session.window new) shows.session.member acks.settles in
       gone_on identifier code session new connected' reply is acks.same has_connected (settles identifier code session new connected' reply is acks.same has_connected solo.membership refl its)
-  answers (packets.Subscribe subscribe) connected' reply new does = subscribes subscribe (subscribe_refusal subscribe) does.0 does.1 connected' reply new does.3 does.2
+  answers (packets.Subscribe subscribe) connected' reply new does =
+      subscribes subscribe (subscribe_refusal subscribe) does.0 does.1 connected' reply new does.3
+      (subst (λ (r : Rights). Subscribes Calls slot_at r old connected.session.membership connected.session.subscription subscribe reply does.0 does.1 new) shows.rights does.2)
   answers (packets.Unsubscribe unsubscribe) connected' reply new does = unsubscribes unsubscribe (unsubscribe_refusal unsubscribe) does.0 connected' reply new does.2 does.1
   answers packets.Pingreq connected' reply new does = goes _ connected' reply new does.0 does.1 does.2
   answers (packets.Disconnect disconnect) connected' reply new does = disconnects disconnect.properties.session_expiry_interval connected' reply new does.0 does.1

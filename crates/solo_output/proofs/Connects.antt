@@ -27,6 +27,7 @@ use Rattle.session_desk.specs.Rows.{Rows, HasRow, new_row}
 use Rattle.session_desk.specs.Sessions.{Who}
 use Rattle.session_desk.proofs.Seen.{insert_here}
 use Rattle.session_desk.specs.declared.session.Membership.TheVariants.{NotMember}
+use Rattle.users.specs.Rights.{all_rights}
 use Rattle.conn_rules.specs.Connecting.{inflight_alone, no_overrides, terms_of}
 use Rattle.conn_rules.specs.Packets.{accepting}
 use Rattle.conn_supply.specs.declared.reply.Then.TheVariants.{Go}
@@ -206,7 +207,7 @@ attaches connect capacity max_inflight shares now phase reply old new is_new fit
     subst (ShowsBroker (begun connect solo) []) (sym same) (broker_moved (begun connect solo) [] old mid does.asked_for.routes does.asked_for.groups now_shows) in
     let desk : ShowsDesk NotMember mid.desk = record { not_kicked = first.kicked; places = subst AllFree (sym first.free) is_new.desk.free } in
     record {
-      connected = record { session = session; terms = terms_of (inflight_alone max_inflight) connect; heard = now };
+      connected = record { session = session; terms = terms_of (inflight_alone max_inflight) connect; rights = all_rights; heard = now };
       stands = accepts.begun;
       told = accepts.told ∙ ap (λ (n : Option (List ℕ)). going_on (Some (accepting false n no_overrides))) first.name;
       shows = record {
@@ -221,6 +222,7 @@ attaches connect capacity max_inflight shares now phase reply old new is_new fit
           lent = subst (λ (b : Broker). IsLentAs b.desk.rows first.who) (sym same) first.lent;
         };
         terms = refl;
+        rights = refl;
         phase = refl;
       };
     }

@@ -55,7 +55,7 @@ module _ (solo : SoloState) (connected : ConnectedClient GroupPlace) (old : Brok
         shows =
             subst (λ (m : Membership GroupPlace). ShowsClient solo (after_hand_out connected m window) new) (sym same)
             (subst (λ (w : Contents Held). ShowsClient solo (after_hand_out connected connected.session.membership w) new) (sym kept)
-            (subst (ShowsClient solo (after_hand_out connected connected.session.membership connected.session.window)) (sym still) (record { session = shows.session; terms = shows.terms; phase = shows.phase })));
+            (subst (ShowsClient solo (after_hand_out connected connected.session.membership connected.session.window)) (sym still) (record { session = shows.session; terms = shows.terms; rights = shows.rights; phase = shows.phase })));
       }
 
   leaves : (slot : ℕ) → solo.membership ≡ Leaving slot → (membership : Membership GroupPlace) (window : Contents Held) (new : Broker) → window ≡ connected.session.window → LeavesWith Calls old (first_place slot) connected.session.window membership new
@@ -86,6 +86,7 @@ module _ (solo : SoloState) (connected : ConnectedClient GroupPlace) (old : Brok
                 lent = subst (λ (rows : Rows Held GroupPlace). IsLentAs rows connected.session.identity) (sym got.1.rows) shows.session.lent;
               };
               terms = shows.terms;
+              rights = shows.rights;
               phase = shows.phase;
             }));
       })
@@ -121,6 +122,7 @@ module _ (solo : SoloState) (connected : ConnectedClient GroupPlace) (old : Brok
             lent = subst (λ (rows : Rows Held GroupPlace). IsLentAs rows connected.session.identity) (ap (λ d. d.rows) (sym got.desk)) shows.session.lent;
           };
           terms = shows.terms ∙ sym keeps.terms;
+          rights = shows.rights;
           phase = keeps.phase ∙ shows.phase;
         };
       }

@@ -11,6 +11,7 @@ use Rattle.session_desk.specs.declared.session.Membership.{Membership}
 use Rattle.session_desk.specs.declared.session.Membership.TheVariants.{NotMember, Member, Leaving}
 use Rattle.session_desk.specs.Rows.{Rows, HasRow}
 use Rattle.session_desk.specs.Sessions.{Who}
+use Rattle.users.specs.Rights.{all_rights}
 use Rattle.conn_rules.specs.declared.terms.Terms.{Terms}
 use Rattle.conn_supply.specs.Memberships.{with_subscription as having_subscription}
 use Rattle.conn_engine.specs.declared.phase.ConnectedClient.{ConnectedClient}
@@ -64,6 +65,7 @@ pub record ShowsSession (solo : SoloState) (session : Session Held GroupPlace) (
 pub record ShowsClient (solo : SoloState) (connected : ConnectedClient GroupPlace) (b : Broker) : Type 0 where
   pub session : ShowsSession solo connected.session b
   pub terms : connected.terms ≡ solo.terms
+  pub rights : connected.rights ≡ all_rights
   pub phase : solo.phase ≡ Connected
 
 -- ---- models that differ in their messages alone

@@ -179,7 +179,7 @@ module _ (solo : SoloState) (connected : ConnectedClient GroupPlace) (old : Brok
       let same : mid ≡ old = λ i. record { desk = not.1 i; routes = not.2 i; groups = not.3 i } in
       let its = subst (λ (b : Bool). AnswersUnlessKicked Calls slot_at b mid connected 0 (AnswersPacket Calls slot_at mid 0 connected 0 packet) phase told new) not.0 does in
       let heard = hearing connected 0 in
-      let shown : ShowsClient solo heard mid = subst (ShowsClient solo heard) (sym same) (record { session = shows.session; terms = shows.terms; phase = shows.phase }) in
+      let shown : ShowsClient solo heard mid = subst (ShowsClient solo heard) (sym same) (record { session = shows.session; terms = shows.terms; rights = shows.rights; phase = shows.phase }) in
       let answered = answers solo heard mid shown packet its.0 told its.1 its.2 in
       concludes (later_reply packet solo) its.0 told phase its.1 new answered its.3
 

@@ -13,6 +13,8 @@ use Rattle.session_desk.specs.declared.session.Session.{Session}
 use Rattle.session_desk.specs.declared.session.Membership.{Membership}
 use Rattle.session_desk.specs.declared.session.Membership.TheVariants.{NotMember, Member, Leaving}
 use Rattle.session_desk.specs.Rows.{Rows}
+use Rattle.users.specs.Rights.{all_rights}
+use Rattle.users.proofs.Allowed.{every_share_may_be_worked_for}
 use Rattle.conn_rules.specs.declared.subscribing.EntryAnswer.{EntryAnswer}
 use Rattle.conn_rules.specs.declared.subscribing.EntryAnswer.TheVariants as answers
 use Rattle.conn_rules.specs.declared.terms.Terms.{Terms}
@@ -20,7 +22,7 @@ use Rattle.conn_rules.specs.Subscribing.{entry_answer}
 use Rattle.conn_supply.specs.declared.supply.BindRefusal.{BindRefusal}
 use Rattle.conn_supply.specs.declared.supply.BindRefusal.TheVariants as refusal
 use Rattle.conn_supply.specs.Memberships.{with_membership as having}
-use Rattle.conn_supply.specs.Subscribing.{IsLent, EntersAs, StaysAs, Joins, AnswersEntry, AnswersEntries, LeavesFrom, LeavesBy, LeavesByAll}
+use Rattle.conn_supply.specs.Subscribing.{IsLent, EntersAs, StaysAs, Joins, AnswersEntry, AnswersEntries, LeavesFrom, LeavesBy, LeavesByAll, JoinsIf}
 use Rattle.local_broker.specs.Places.{GroupPlace}
 use Rattle.local_broker.specs.Broker.{Broker}
 use Rattle.local_broker.specs.Calls.{Calls}
@@ -230,11 +232,13 @@ module _ (solo : SoloState) (session : Session Held GroupPlace) (old : Broker) (
       stays slot (Leaving slot) is (record { not_kicked = desk.not_kicked; places = desk.places }) (λ at. refl) share does.0 code membership' new does.1.0 does.1.1
       (subst (λ (m : Membership GroupPlace). StaysAs Calls slot_at (first_place slot) does.0 m code membership') (sym (member_is (Leaving slot) is)) does.2)
 
-  answers_entry : (answer : EntryAnswer) (code : ℕ) (membership : Membership GroupPlace) (new : Broker) → AnswersEntry Calls slot_at old session.membership answer code membership new
+  answers_entry : (answer : EntryAnswer) (code : ℕ) (membership : Membership GroupPlace) (new : Broker) → AnswersEntry Calls slot_at all_rights old session.membership answer code membership new
       → Codes (entry_reply answer solo) solo session code membership new
   answers_entry (answers.Refuse refused) code membership new does = refuses code refused membership new does.0 does.1 does.2
   answers_entry (answers.Join share) code membership new does =
-      joins solo.membership refl share code membership new (subst (λ (m : Membership GroupPlace). Joins Calls slot_at old m share code membership new) shows.member does)
+      let joined : Joins Calls slot_at old session.membership share code membership new =
+      subst (λ (b : Bool). JoinsIf Calls slot_at b old session.membership share code membership new) (every_share_may_be_worked_for share.text) does in
+      joins solo.membership refl share code membership new (subst (λ (m : Membership GroupPlace). Joins Calls slot_at old m share code membership new) shows.member joined)
 
   leaves_by : (membership : Membership ℕ) → solo.membership ≡ membership → (parsed : Result Share TopicError) (code : ℕ) (membership' : Membership GroupPlace) (new : Broker) → LeavesBy Calls slot_at old (placed membership) parsed code membership' new
       → Codes (leave_as membership parsed solo) solo session code membership' new
@@ -262,7 +266,7 @@ no_codes solo session old new codes membership shows none same still =
     }
 
 pub joins_all : (entries : List Subscription) (solo : SoloState) (session : Session Held GroupPlace) (old new : Broker) (codes : List ℕ) (membership : Membership GroupPlace) → ShowsSession solo session old
-    → AnswersEntries Calls slot_at old session.membership entries codes membership new → CodesAll (join_all entries solo) solo session codes membership new
+    → AnswersEntries Calls slot_at all_rights old session.membership entries codes membership new → CodesAll (join_all entries solo) solo session codes membership new
 joins_all [] solo session old new codes membership shows does = no_codes solo session old new codes membership shows does.0 does.1 does.2
 joins_all (entry ∷ entries) solo session old new codes membership shows (code, rest, between, mid, first, later, are) =
     let one = answers_entry solo session old shows (entry_answer entry) code between mid first in

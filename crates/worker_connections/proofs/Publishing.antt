@@ -1,5 +1,5 @@
 -- What comes into the ports of a worker, call by call, step by step, and over its run.
-use Rattle.std.proofs.Common.{◌≡◌, ◌≢◌, ◌⊎◌, ℕ, ◌<◌, Bool, true, false, List, [], ◌∷◌, ◌++◌, length, Option, Some, None, Result, Err, refl, sym, ap, subst, ◌∙◌, inl, inr, ⊎_elim, append-nil}
+use Rattle.std.proofs.Common.{◌≡◌, ◌≢◌, ◌⊎◌, ℕ, ◌<◌, Bool, true, false, List, [], ◌∷◌, ◌++◌, length, Option, Some, None, Result, Err, refl, sym, ap, subst, ◌∙◌, inl, inr, ⊎_elim, append-nil, arith}
 use Rattle.std.specs.List.{cons_option}
 use Rattle.std.specs.Option.{option_to_list}
 use Rattle.mqtt_packet.specs.declared.packet.Packet.{Packet}
@@ -13,6 +13,8 @@ use Rattle.group_jobs.specs.Stamps.{Held}
 use Rattle.group_queue.specs.Ports.{GroupId, PortState}
 use Rattle.broker_groups.specs.Answers.{Sights}
 use Rattle.group_queue.specs.Places.{PlaceState}
+use Rattle.users.specs.Table.{Rights}
+use Rattle.users.specs.Rights.{may_publish}
 use Rattle.conn_rules.specs.declared.connecting.FirstAnswer.{FirstAnswer}
 use Rattle.conn_rules.specs.declared.connecting.FirstAnswer.TheVariants as first
 use Rattle.conn_rules.specs.declared.publishing.PublishAnswer.{PublishAnswer}
@@ -28,7 +30,7 @@ use Rattle.conn_supply.specs.declared.supply.OfferRefusal.{OfferRefusal}
 use Rattle.conn_supply.specs.declared.supply.OfferRefusal.TheVariants as refusal
 use Rattle.conn_supply.specs.SupplyCalls.{SupplyCall}
 use Rattle.conn_supply.specs.SupplyCalls.SupplyCall.{Attach, Withdraw, Kicked, Park, ParkAsIs, Keep, Bury, Sweep, LendPlace, TakePlace, Bind, Find, Match, Offer, MayTake, Take, TakeBack, Settle, GiveBack}
-use Rattle.conn_supply.specs.Publishing.{Offers, OffersFirst, OffersSome, AnswersPublish}
+use Rattle.conn_supply.specs.Publishing.{AnswersPublish, Offers, OffersFirst, OffersIf, OffersSome}
 use Rattle.conn_supply.specs.Replies.{acknowledging}
 use Rattle.conn_engine.specs.declared.input.Input.{Input}
 use Rattle.conn_engine.specs.declared.input.Input.TheVariants as inputs
@@ -144,6 +146,14 @@ module _ (group : ℕ → GroupId) (seen : Sights) where
   silent : (reply : Reply) (packet : Packet) (between : ConnPhase PlaceState) → reply.packet ≡ Some packet → ((identifier code : ℕ) → code < 0x80 → packet ≢ puback identifier code) → IsNoPromise reply.packet between
   silent reply packet between is never = subst (λ (it : Option Packet). IsNoPromise it between) (sym is) never
 
+  abbrev code_of : Packet → ℕ
+  code_of (packets.Puback acknowledged) = acknowledged.reason_code
+  code_of other = 0
+
+  -- a PUBACK of 87 promises nothing
+  not_promised : (identifier own code : ℕ) → code < 0x80 → puback identifier 0x87 ≢ puback own code
+  not_promised identifier own code few same = let is : 0x87 ≡ code = ap code_of same in omega (arith, few, is)
+
   over : (reply : Reply) (between : ConnPhase PlaceState) → reply.packet ≡ None → between ≡ Ended → IsNoPromise reply.packet between
   over reply between is ended = subst (λ (it : Option Packet). IsNoPromise it between) (sym is) ended
 
@@ -161,11 +171,11 @@ module _ (group : ℕ → GroupId) (seen : Sights) where
   concluded Close old new connected now phase concludes = plain old new (parted (Calls group seen) old new connected.session now concludes.0)
   concluded TakenOver old new connected now phase concludes = plain old new (parted (Calls group seen) old new connected.session now concludes.0)
 
-  published : (answer : PublishAnswer) (old mid new : Worker) (number now : ℕ) (publish : Publish) (between : ConnPhase PlaceState) (reply : Reply) → publish_answer publish ≡ answer
-      → AnswersPublish (Calls group seen) old number now publish answer reply mid → new.ports ≡ mid.ports → RepliesTo now publish (publisher_of old) between reply (publisher_of new)
-  published (answers.Close code) old mid new number now publish between reply answered is kept =
-      inr (kept ∙ ap (λ (w : Worker). w.ports) is.1, silent reply _ between (ap (λ (r : Reply). r.packet) is.0) (λ identifier code few same. cc same))
-  published (answers.Offer identifier) old mid new number now publish between reply answered is kept =
+  offered_if : (allowed : Bool) (identifier : ℕ) (old mid new : Worker) (number now : ℕ) (publish : Publish) (between : ConnPhase PlaceState) (reply : Reply) → publish_answer publish ≡ answers.Offer identifier
+      → OffersIf (Calls group seen) allowed old number now publish identifier reply mid → new.ports ≡ mid.ports → RepliesTo now publish (publisher_of old) between reply (publisher_of new)
+  offered_if false identifier old mid new number now publish between reply answered is kept =
+      inr (kept ∙ ap (λ (w : Worker). w.ports) is.1, silent reply _ between (ap (λ (r : Reply). r.packet) is.0) (not_promised identifier))
+  offered_if true identifier old mid new number now publish between reply answered is kept =
       let Puts : List ℕ → Worker → List PortState → Type 0 = λ slots from ports'. PutsInto group seen from.draining from.ports (message_of now publish) slots is.taken ports' in
       let Told : List ℕ → Type 0 = λ slots. Puts slots old new.ports × (reply ≡ acknowledging identifier (puback_code (length slots) is.taken)) in
       let puts = all_put is.slots number (message_of now publish) is.taken is.mid mid is.offered in
@@ -174,13 +184,20 @@ module _ (group : ℕ → GroupId) (seen : Sights) where
       let told = subst Told is.matched.0 (to_new, is.replied) in
       inl (identifier, answered, is.taken, told.0, told.1)
 
+  published : (rights : Rights) (answer : PublishAnswer) (old mid new : Worker) (number now : ℕ) (publish : Publish) (between : ConnPhase PlaceState) (reply : Reply) → publish_answer publish ≡ answer
+      → AnswersPublish (Calls group seen) rights old number now publish answer reply mid → new.ports ≡ mid.ports → RepliesTo now publish (publisher_of old) between reply (publisher_of new)
+  published rights (answers.Close code) old mid new number now publish between reply answered is kept =
+      inr (kept ∙ ap (λ (w : Worker). w.ports) is.1, silent reply _ between (ap (λ (r : Reply). r.packet) is.0) (λ identifier code few same. cc same))
+  published rights (answers.Offer identifier) old mid new number now publish between reply answered is kept =
+      offered_if (may_publish rights publish.topic) identifier old mid new number now publish between reply answered is kept
+
   packet_answered : (was_kicked : Bool) (old new : Worker) (number now : ℕ) (connected : ConnectedClient PlaceState) (publish : Publish) (between : ConnPhase PlaceState) (reply : Reply)
       → AnswersUnlessKicked (Calls group seen) slot_of was_kicked old connected now (AnswersPacket (Calls group seen) slot_of old number connected now (packets.Publish publish)) between reply new
       → RepliesTo now publish (publisher_of old) between reply (publisher_of new)
   packet_answered true old new number now connected publish between reply is =
       inr (plain old new (parted (Calls group seen) old new connected.session now is.1.0), silent reply _ between (ap (λ (r : Reply). r.packet) is.0) (λ identifier code few same. cc same))
   packet_answered false old new number now connected publish between reply is =
-      published (publish_answer publish) old is.1 new number now publish between reply refl is.2.0 (concluded reply.next is.1 new is.0 now between is.3)
+      published connected.rights (publish_answer publish) old is.1 new number now publish between reply refl is.2.0 (concluded reply.next is.1 new is.0 now between is.3)
 
   reacted : (phase : ConnPhase PlaceState) (publish : Publish) (old new : Worker) (number now : ℕ) (between : ConnPhase PlaceState) (reply : Reply)
       → Reacts (Calls group seen) slot_of old number phase now (inputs.Packet (packets.Publish publish)) between reply new → RepliesTo now publish (publisher_of old) between reply (publisher_of new)
@@ -237,7 +254,7 @@ module _ (group : ℕ → GroupId) (seen : Sights) where
   of_other input old new number now phase phase' these next never steps =
       let calls = stepped (Calls group seen) slot_of old new number now phase phase' input these next steps in
       ⊎_elim
-      (λ (each : OffersToEach number now input calls.supply_calls). absurd (never each.publish each.came))
+      (λ (each : OffersToEach number now phase input calls.supply_calls). absurd (never each.publish each.came))
       (λ (nothing : OffersNone phase input calls.supply_calls next). inr (all_stay calls.supply_calls old new nothing.offers calls.made, λ publish is. absurd (never publish is)))
       calls.offers
 
@@ -311,7 +328,7 @@ module _ (group : ℕ → GroupId) (seen : Sights) where
   unanswered (Connected connected) publish old new number now fails =
       let mid = fails.0 in
       let answer = fails.2 in
-      let cut = answer.2.0 in
+      let cut = answer.2.0.0 in
       let some = few cut.slots number (message_of now publish) cut.mid answer.1 cut.offered in
       let kept = plain answer.1 new (parted (Calls group seen) answer.1 new answer.0.session now answer.3) in
       let Puts : Worker → List PortState → Type 0 = λ from ports'. PutsSome group seen from.draining from.ports (message_of now publish) some.these ports' in
@@ -359,7 +376,7 @@ module _ (group : ℕ → GroupId) (seen : Sights) where
   at_failed input old new number now phase fails =
       let calls = failed (Calls group seen) slot_of old new number now phase input fails in
       ⊎_elim
-      (λ (some : OffersToSome number now input calls.supply_calls).
+      (λ (some : OffersToSome number now phase input calls.supply_calls).
       ⊎_elim
       (λ (cut : IsCutShort group seen now some.publish (publisher_of old) (publisher_of new)). inl (some.publish, some.came, cut))
       (λ (same : new.ports ≡ old.ports). inr same)
