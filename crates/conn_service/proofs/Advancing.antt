@@ -1,5 +1,5 @@
 -- What acts tell, one after the other: that what waits is written first, that a read gave as much as there was room for, or that the transport took something.
-use Rattle.std.proofs.Common.{◌≡◌, ◌≢◌, ◌⊎◌, ℕ, ◌<◌, ◌≤◌, Bool, true, false, List, [], ◌∷◌, ◌++◌, Option, Some, None, Result, Ok, Err, IfOk, refl, sym, ap, subst, ◌∙◌, inl, inr, append-nil, arith}
+use Rattle.std.proofs.Common.{◌≡◌, ◌≢◌, ◌⊎◌, ℕ, ◌+◌, ◌<◌, ◌≤◌, Bool, true, false, List, [], ◌∷◌, ◌++◌, Option, Some, None, Result, Ok, Err, IfOk, refl, sym, ap, subst, ◌∙◌, inl, inr, append-nil, arith}
 use Rattle.std.proofs.lemmas.List.{nil_from_length}
 use Rattle.std.proofs.lemmas.Bool.Decides.{nat_tests}
 use Rattle.transport.specs.declared.counts.Counts.{Counts}
@@ -10,23 +10,32 @@ use Rattle.transport.specs.declared.answers.Put.TheVariants as put
 use Rattle.conn_engine.specs.declared.phase.ConnPhase.TheVariants.{Ended}
 use Rattle.client_table.specs.Clients.{ClientState}
 use Rattle.conn_service.specs.declared.served.Served.{Served}
-use Rattle.conn_service.specs.Services.{ServiceState, HasNoMore}
-use Rattle.conn_service.specs.Acts.{Act, Reads, Writes, Enters, Leaves, BeginsByWriting}
+use Rattle.conn_service.specs.Services.{ServiceState, HasNoMore, most_packets}
+use Rattle.conn_service.specs.Acts.{Act, Reads, Writes, Enters, Leaves, BeginsByWriting, packets_in}
 use Rattle.conn_service.specs.Visits.{Outside}
 use Rattle.conn_service.specs.Edges.{ReadsOnce, WritesOnce, LeadsAtEdge}
 use Rattle.conn_service.specs.Moments.{drained_by}
-use Rattle.conn_service.specs.Advances.{IsFilled, IsTaken, HasAdvance, HasForgotten, IsDoneOrAdvances, IsWrittenOn, WritesFirst, TellsOfVisit, LeadsAtEdgeBy}
+use Rattle.conn_service.specs.Advances.{IsFilled, IsTaken, HasAdvance, HasProgressed, HasForgotten, IsDoneOrAdvances, IsWrittenOn, WritesFirst, TellsOfVisit, LeadsAtEdgeBy}
+use Rattle.conn_service.proofs.Counting.{packets_append}
 use Rattle.conn_service.proofs.Leading.{edge_one, edge_on}
 use Rattle.conn_service.proofs.Rounds.{writes_on}
 
-pub has_first : (these those : List Act) → HasAdvance these → HasAdvance (these ++ those)
+has_first : (these those : List Act) → HasAdvance these → HasAdvance (these ++ those)
 has_first [] those has = absurd has
 has_first (act ∷ these) those (inl is) = inl is
 has_first (act ∷ these) those (inr has) = inr (has_first these those has)
 
-pub has_last : (these those : List Act) → HasAdvance those → HasAdvance (these ++ those)
+has_last : (these those : List Act) → HasAdvance those → HasAdvance (these ++ those)
 has_last [] those has = has
 has_last (act ∷ these) those has = inr (has_last these those has)
+
+progressed_first : (these those : List Act) → HasProgressed these → HasProgressed (these ++ those)
+progressed_first these those (inl has) = inl (has_first these those has)
+progressed_first these those (inr many) = inr (omega (arith, packets_append these those, many))
+
+progressed_last : (these those : List Act) → HasProgressed those → HasProgressed (these ++ those)
+progressed_last these those (inl has) = inl (has_last these those has)
+progressed_last these those (inr many) = inr (omega (arith, packets_append these those, many))
 
 forgotten_first : (these those : List Act) → HasForgotten these → HasForgotten (these ++ those)
 forgotten_first [] those has = absurd has
@@ -101,14 +110,14 @@ module _ {P T : Type 0} (counts : T → Counts) (given accepted : T → Option (
       → new.drained ≡ mid.drained → IsDoneOrAdvances true new (Reads size its bytes ∷ rest)
   read_told size its bytes old mid new rest reads some same = λ none. read_by size its bytes old mid new rest reads some same (either mid.drained) where
     read_by : (size : ℕ) (its : Got) (bytes : List ℕ) (old mid new : ServiceState P T) (rest : List Act) → ReadsOnce counts given accepted size its bytes old mid → 0 < size
-        → new.drained ≡ mid.drained → (mid.drained ≡ true) ⊎ (mid.drained ≡ false) → ((true ≡ true) × HasNoMore new) ⊎ HasAdvance (Reads size its bytes ∷ rest)
+        → new.drained ≡ mid.drained → (mid.drained ≡ true) ⊎ (mid.drained ≡ false) → ((true ≡ true) × HasNoMore new) ⊎ HasProgressed (Reads size its bytes ∷ rest)
     read_by size its bytes old mid new rest reads some same (inl drained) = inl (refl, inl (same ∙ drained))
     read_by size its bytes old mid new rest reads some same (inr not_drained) =
-        inr (inl (filled size its some (sym (ap (λ (s : ServiceState P T). s.drained) reads.becomes) ∙ not_drained)))
+        inr (inl (inl (filled size its some (sym (ap (λ (s : ServiceState P T). s.drained) reads.becomes) ∙ not_drained))))
 
 module _ {P T : Type 0} where
-  done_along : (all : Bool) (new last : ServiceState P T) (acts acts' : List Act) → new ≡ last → (HasAdvance acts → HasAdvance acts') → ((all ≡ true) × HasNoMore last) ⊎ HasAdvance acts
-      → ((all ≡ true) × HasNoMore new) ⊎ HasAdvance acts'
+  done_along : (all : Bool) (new last : ServiceState P T) (acts acts' : List Act) → new ≡ last → (HasProgressed acts → HasProgressed acts') → ((all ≡ true) × HasNoMore last) ⊎ HasProgressed acts
+      → ((all ≡ true) × HasNoMore new) ⊎ HasProgressed acts'
   done_along all new last acts acts' is along (inl done) = inl (done.0, subst (λ (s : ServiceState P T). HasNoMore s) (sym is) done.1)
   done_along all new last acts acts' is along (inr has) = inr (along has)
 
@@ -117,23 +126,23 @@ module _ {P T : Type 0} where
       → (new.client.conn.phase ≡ Ended) ⊎ ((new ≡ read) × (read.at_end ≡ false)) → IsDoneOrAdvances true new ((before ++ its) ++ behind)
   end_told read new before its behind more (inl over) = λ none. inl (refl, inr (inl over))
   end_told read new before its behind more (inr same) = λ none.
-      done_along true new read its ((before ++ its) ++ behind) same.0 (λ has. has_first (before ++ its) behind (has_last before its has))
+      done_along true new read its ((before ++ its) ++ behind) same.0 (λ has. progressed_first (before ++ its) behind (progressed_last before its has))
       (more same.1 (sym (ap (λ (s : ServiceState P T). s.outgoing) same.0) ∙ none))
 
   -- what is done in a visit stands between its beginning and its end
   pub visit_told : (result : Result Bool Served) (is_open reads : Bool) (new : ServiceState P T) (acts : List Act) → reads ≡ true → IfOk result (λ all. IsDoneOrAdvances all new acts)
       → TellsOfVisit result new (Enters is_open reads ∷ (acts ++ Leaves ∷ []))
   visit_told (Ok all) is_open reads new acts is more =
-      ((λ none. done_along all new new acts (Enters is_open reads ∷ (acts ++ Leaves ∷ [])) refl (λ has. inr (has_first acts (Leaves ∷ []) has)) (more none)), inr (inl is))
+      ((λ none. done_along all new new acts (Enters is_open reads ∷ (acts ++ Leaves ∷ [])) refl (λ has. progressed_last (Enters is_open reads ∷ []) (acts ++ Leaves ∷ []) (progressed_first acts (Leaves ∷ []) has)) (more none)), inr (inl is))
   visit_told (Err served) is_open reads new acts is more = tt
 
   -- a round: what waits is written before and after a visit
   round_done : (all : Bool) (visited written new : ServiceState P T) (a b c d : List Act) → IsDoneOrAdvances all visited b
       → (written ≡ visited) ⊎ (HasAdvance c ⊎ (written.outgoing ≢ [])) → new ≡ written → IsDoneOrAdvances all new (((a ++ b) ++ c) ++ d)
   round_done all visited written new a b c d more (inl same) is = λ none.
-      done_along all new visited b (((a ++ b) ++ c) ++ d) (is ∙ same) (λ has. has_first ((a ++ b) ++ c) d (has_first (a ++ b) c (has_last a b has)))
+      done_along all new visited b (((a ++ b) ++ c) ++ d) (is ∙ same) (λ has. progressed_first ((a ++ b) ++ c) d (progressed_first (a ++ b) c (progressed_last a b has)))
       (more (sym (ap (λ (s : ServiceState P T). s.outgoing) (is ∙ same)) ∙ none))
-  round_done all visited written new a b c d more (inr (inl advances)) is = λ none. inr (has_first ((a ++ b) ++ c) d (has_last (a ++ b) c advances))
+  round_done all visited written new a b c d more (inr (inl advances)) is = λ none. inr (inl (has_first ((a ++ b) ++ c) d (has_last (a ++ b) c advances)))
   round_done all visited written new a b c d more (inr (inr waits)) is = λ none. absurd (waits (sym (ap (λ (s : ServiceState P T). s.outgoing) is) ∙ none))
 
   round_forgets : (visited written new : ServiceState P T) (a b c d : List Act) → (visited.client.conn.phase ≡ Ended) ⊎ HasForgotten b → new ≡ written → written.client ≡ visited.client
@@ -150,10 +159,15 @@ module _ {P T : Type 0} where
   round_told all visited written new a b c d told on going is client_is not_over =
       (round_done all visited written new a b c d told.0 (on going) is, round_forgets visited written new a b c d told.1 is client_is not_over)
 
-  told_by : (all : Bool) (new : ServiceState P T) (acts : List Act) → (all ≡ true → HasNoMore new → ⊥) → ((all ≡ true) × HasNoMore new) ⊎ HasAdvance acts → HasAdvance acts
+  told_by : (all : Bool) (new : ServiceState P T) (acts : List Act) → (all ≡ true → HasNoMore new → ⊥) → ((all ≡ true) × HasNoMore new) ⊎ HasProgressed acts → HasProgressed acts
   told_by all new acts more (inl done) = absurd (more done.0 done.1)
-  told_by all new acts more (inr advances) = advances
+  told_by all new acts more (inr progressed) = progressed
 
-  -- it tells that more can be done only where it advanced
-  pub told_more : (all : Bool) (new : ServiceState P T) (acts : List Act) → new.outgoing ≡ [] → (all ≡ true → HasNoMore new → ⊥) → IsDoneOrAdvances all new acts → HasAdvance acts
+  -- where no more may be stepped, something waits to be written, or as many were stepped as a round may step
+  pub used_told : (new : ServiceState P T) (left : ℕ) (acts : List Act) → (new.outgoing ≢ []) ⊎ (left ≡ 0) → packets_in acts + left ≡ most_packets → IsDoneOrAdvances false new acts
+  used_told new left acts (inl waits) counted = λ none. absurd (waits none)
+  used_told new left acts (inr used) counted = λ none. inr (inr (omega (arith, used, counted)))
+
+  -- it tells that more can be done only where it has got on
+  pub told_more : (all : Bool) (new : ServiceState P T) (acts : List Act) → new.outgoing ≡ [] → (all ≡ true → HasNoMore new → ⊥) → IsDoneOrAdvances all new acts → HasProgressed acts
   told_more all new acts none more done = told_by all new acts more (done none)

@@ -33,7 +33,7 @@ treads_outside now (GivesUp at) to treads = absurd treads
 treads_outside now Ends to treads = inr treads
 treads_outside now Others to treads = absurd treads
 
-walks_outside : (now : ℕ) (acts : List Act) (to : Stand) → Walks now Behind acts to → Walks now Outside acts to
+pub walks_outside : (now : ℕ) (acts : List Act) (to : Stand) → Walks now Behind acts to → Walks now Outside acts to
 walks_outside now [] to walks = inr walks
 walks_outside now (act ∷ acts) to walks = (walks.0, treads_outside now act walks.0 walks.1, walks.2)
 
@@ -160,7 +160,7 @@ module _ {S P T : Type 0} (call : S → SupplyCall P → S → Type 0) (begins e
   leads_past {now = now} old new supply supply' led =
       leads_on {now = now} {a = Outside} {b = Outside} {c = Behind} old new new supply supply' supply' led (record { acts = []; does = (refl, refl); walks = inr refl })
 
-  pub leads_from_behind : {now : ℕ} {to : Stand} (old new : ServiceState P T) (supply supply' : S) → Leads call begins ends visiting slot_of counts given accepted now Behind to old supply new supply'
+  unfoldable pub leads_from_behind : {now : ℕ} {to : Stand} (old new : ServiceState P T) (supply supply' : S) → Leads call begins ends visiting slot_of counts given accepted now Behind to old supply new supply'
       → Leads call begins ends visiting slot_of counts given accepted now Outside to old supply new supply'
   leads_from_behind {now = now} {to = to} old new supply supply' led = record { acts = led.acts; does = led.does; walks = walks_outside now led.acts to led.walks }
 

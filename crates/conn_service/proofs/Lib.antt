@@ -2,6 +2,7 @@ pub mod Leading
 pub mod Emptied
 pub mod Filling
 pub mod AtEdge
+pub mod Counting
 pub mod OneStep
 pub mod Fronts
 pub mod Rounds

@@ -1,5 +1,5 @@
 -- What happens to a connection while it is served, act by act, and what can be read off a list of them.
-use Rattle.std.specs.Prelude.{ℕ, Bool, List, [], ◌∷◌, Option, Some, None, filter_map, ⊤}
+use Rattle.std.specs.Prelude.{ℕ, ◌+◌, Bool, List, [], ◌∷◌, length, Option, Some, None, filter_map, ⊤}
 use Rattle.std.specs.List.{flat_map}
 use Rattle.mqtt_packet.specs.declared.packet.Packet.{Packet}
 use Rattle.mqtt_fields.specs.declared.fault.StreamFault.{StreamFault}
@@ -106,6 +106,10 @@ packets_read acts = flat_map packet_in (inputs_of acts)
 
 abbrev pub faults_met : List Act → List StreamFault
 faults_met acts = flat_map fault_in (inputs_of acts)
+
+-- how many packets were stepped, a fault among them that stands in the place of one
+abbrev pub packets_in : List Act → ℕ
+packets_in acts = length (packets_read acts) + length (faults_met acts)
 
 abbrev pub packets_sent : List Act → List Packet
 packets_sent acts = flat_map packets_sent_in acts

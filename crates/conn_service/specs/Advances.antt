@@ -1,5 +1,6 @@
--- What the acts of a round tell: that more can be done at once, as a read gave as much as there was room for, or the transport took something; or that a read gave less.
-use Rattle.std.specs.Prelude.{◌≡◌, ◌≢◌, ◌⊎◌, ℕ, ◌<◌, ◌≤◌, Bool, true, List, [], ◌∷◌, Option, None, Result, IfOk, ⊤}
+-- What the acts of a round tell: that more can be done at once, as a read gave as much as there was room for, the transport took something, or as many packets were
+-- stepped as a round may step; or that a read gave less.
+use Rattle.std.specs.Prelude.{◌≡◌, ◌≢◌, ◌⊎◌, ℕ, ◌+◌, ◌<◌, ◌≤◌, Bool, true, List, [], ◌∷◌, Option, None, Result, IfOk, OnOk, ⊤}
 use Rattle.transport.specs.declared.counts.Counts.{Counts}
 use Rattle.transport.specs.declared.answers.Got.{Got}
 use Rattle.transport.specs.declared.answers.Got.TheVariants as got
@@ -12,8 +13,8 @@ use Rattle.conn_service.specs.declared.served.Round.{Round}
 use Rattle.conn_service.specs.declared.served.Round.TheVariants as rounds
 use Rattle.conn_service.specs.declared.served.Served.{Served}
 use Rattle.conn_service.specs.Directions.{reads}
-use Rattle.conn_service.specs.Services.{ServiceState, HasNoMore}
-use Rattle.conn_service.specs.Acts.{Act, Enters, Reads, Writes, BeginsByWriting}
+use Rattle.conn_service.specs.Services.{ServiceState, HasNoMore, most_packets}
+use Rattle.conn_service.specs.Acts.{Act, Enters, Reads, Writes, BeginsByWriting, packets_in}
 use Rattle.conn_service.specs.Visits.{Stand}
 use Rattle.conn_service.specs.Moments.{drained_by}
 use Rattle.conn_service.specs.Edges.{LeadsAtEdge}
@@ -43,6 +44,14 @@ abbrev pub HasAdvance : List Act → Type 0
 HasAdvance [] = ⊥
 HasAdvance (act ∷ acts) = IsAdvance act ⊎ HasAdvance acts
 
+-- one of them is such a one, or as many packets were stepped as a round may step
+abbrev pub HasProgressed : List Act → Type 0
+HasProgressed acts = HasAdvance acts ⊎ (most_packets ≤ packets_in acts)
+
+-- of the packets that may be stepped, these acts step no more than that; and where nothing failed, as many fewer are left then
+abbrev pub CountsPackets : {A : Type 0} → Result A Served → ℕ → ℕ → List Act → Type 0
+CountsPackets result before after acts = (packets_in acts ≤ before) × OnOk result (packets_in acts + after ≡ before)
+
 -- a read that gave less than there was room for
 abbrev pub IsShortRead : Act → Type 0
 IsShortRead (Reads size got bytes) = drained_by got size ≡ true
@@ -61,9 +70,9 @@ abbrev pub HasForgotten : List Act → Type 0
 HasForgotten [] = ⊥
 HasForgotten (act ∷ acts) = Forgets act ⊎ HasForgotten acts
 
--- where nothing waits to be written, all is done that can be done at once, or one of these acts is an advance
+-- where nothing waits to be written, all is done that can be done at once, or these acts have got on
 abbrev pub IsDoneOrAdvances : {P T : Type 0} → Bool → ServiceState P T → List Act → Type 0
-IsDoneOrAdvances all new acts = new.outgoing ≡ [] → ((all ≡ true) × HasNoMore new) ⊎ HasAdvance acts
+IsDoneOrAdvances all new acts = new.outgoing ≡ [] → ((all ≡ true) × HasNoMore new) ⊎ HasProgressed acts
 
 -- as long as the connection goes on, nothing was written, the transport took something, or something waits to be written
 abbrev pub IsWrittenOn : {P T : Type 0} → ServiceState P T → ServiceState P T → List Act → Type 0
@@ -95,8 +104,8 @@ module _ {S P T : Type 0} (call : S → SupplyCall P → S → Type 0) (begins e
     pub told : Holds led.acts
 
   -- a round that goes this way, and tells this. One that reads tells that more can be done at once only where in this round a read gave as much as there was room
-  -- for, or the transport took something; and that it waits for something to read only where in this round a read gave less
+  -- for, the transport took something, or 64 packets were stepped; and that it waits for something to read only where in this round a read gave less
   pub record RoundsTo (direction : Direction) (round : Round) (now : ℕ) (old : ServiceState P T) (supply : S) (new : ServiceState P T) (supply' : S) : Type 0 where
     pub made : Rounds call begins ends visiting slot_of counts given accepted now old supply new supply'
-    pub more : reads direction ≡ true → round ≡ rounds.More → HasAdvance made.led.acts
+    pub more : reads direction ≡ true → round ≡ rounds.More → HasProgressed made.led.acts
     pub drained : reads direction ≡ true → round ≡ rounds.Reading → HasShortRead made.led.acts

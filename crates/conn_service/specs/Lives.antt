@@ -1,5 +1,5 @@
 -- What each act makes of a connection that is served and of its supply; and whole lives of such acts.
-use Rattle.std.specs.Prelude.{◌≡◌, ◌≢◌, ◌⊎◌, ℕ, ◌<◌, Bool, true, false, List, [], ◌∷◌, ◌++◌, length, Option, Some, None}
+use Rattle.std.specs.Prelude.{◌≡◌, ◌≢◌, ◌⊎◌, ℕ, ◌<◌, ◌≤◌, Bool, true, false, List, [], ◌∷◌, ◌++◌, length, Option, Some, None}
 use Rattle.mqtt_packet.specs.declared.packet.Packet.{Packet}
 use Rattle.mqtt_wire.specs.Stream.{Unread}
 use Rattle.transport.specs.declared.counts.Counts.{Counts}
@@ -13,8 +13,8 @@ use Rattle.conn_engine.specs.Looking.{IsSilentTooLong}
 use Rattle.client_table.specs.Clients.{step_output, ClientSteps, ClientFailsToStep, IsGivenUp}
 use Rattle.client_table.specs.Streams.{IsRead, IsInFront}
 use Rattle.conn_service.specs.declared.served.Served.TheVariants as served
-use Rattle.conn_service.specs.Services.{ServiceState, bytes_of, write_room}
-use Rattle.conn_service.specs.Acts.{Act, Enters, Leaves, Asks, Reads, Writes, Steps, Loses, Fails, Starves, IsFull, IsStopped, Stalls, GivesUp, Ends, Others, BeginsByWriting}
+use Rattle.conn_service.specs.Services.{ServiceState, bytes_of, write_room, most_packets}
+use Rattle.conn_service.specs.Acts.{Act, Enters, Leaves, Asks, Reads, Writes, Steps, Loses, Fails, Starves, IsFull, IsStopped, Stalls, GivesUp, Ends, Others, BeginsByWriting, packets_in}
 use Rattle.conn_service.specs.Visits.{Stand, Outside, Behind, Walks}
 use Rattle.conn_service.specs.Moments.{ticked_by, since_step, still_drained}
 use Rattle.conn_service.specs.Edges.{DoesAtEdge}
@@ -138,10 +138,11 @@ module _ {S P T : Type 0} (call : S → SupplyCall P → S → Type 0) (begins e
     pub walks : Walks now from acts to
 
   -- a round at this moment leads from the one to the other: nobody else uses the supply within it, and its one visit ends within it. What waits is written to
-  -- the transport first, where the connection goes on
+  -- the transport first, where the connection goes on; and no more than 64 packets are stepped
   pub record Rounds (now : ℕ) (old : ServiceState P T) (supply : S) (new : ServiceState P T) (supply' : S) : Type 0 where
     pub led : Leads now Outside Behind old supply new supply'
     pub asks : old.outgoing ≢ [] → new.ending ≡ None → BeginsByWriting led.acts
+    pub few : packets_in led.acts ≤ most_packets
 
   -- rounds, one after the other, and nobody else uses the supply between them
   abbrev pub RoundsAll : List ℕ → ServiceState P T → S → ServiceState P T → S → Type 0

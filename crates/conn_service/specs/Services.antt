@@ -42,6 +42,10 @@ bytes_of packets = flat_map written packets
 abbrev pub write_room : ℕ
 write_room = 16384
 
+-- how many packets a round steps at most: 64
+abbrev pub most_packets : ℕ
+most_packets = 64
+
 -- how many bytes of its stream may be kept, while a connection waits for its session, before it is not read any more: 64 KiB
 abbrev pub kept_room : ℕ
 kept_room = 65536

@@ -5,9 +5,9 @@ ghost use Rattle.conn_service.specs.declared.served.Served.TheVariants as ending
 ghost use Rattle.conn_service.specs.Crossings.{RefusesAlways};
 ghost use Rattle.conn_engine.specs.declared.phase.ConnPhase.TheVariants.{Ended};
 ghost use Rattle.conn_service.specs.Services.{KeepsEnough, KeepsIdles, kept_room, most_refused};
-ghost use Rattle.conn_service.specs.Advances.{IsWrittenOn, LeadsAtEdgeBy, WritesFirst};
+ghost use Rattle.conn_service.specs.Advances.{IsWrittenOn, LeadsAtEdgeBy, LeadsBy, WritesFirst};
+ghost use Rattle.conn_service.specs.Acts.{packets_in};
 ghost use Rattle.conn_service.specs.Visits.{Behind, Inside, Outside};
-ghost use Rattle.conn_service.specs.Lives.{Leads};
 ghost use Rattle.conn_service.specs.Edges.{MayRead, ReadsOnce, WritesOnce, LeadsAtEdge};
 
 use crate::crossing::may_pass;
@@ -164,7 +164,7 @@ impl<P: HoldingPlace, T: Transport> Service<P, T> {
         requires going { self.old.ending ≡ None }
         requires waits { self.old.outgoing ≢ [] }
         requires refused { most_refused ≤ self.old.refused }
-        ensures led { Leads S.call S.begins S.ends S.visiting P.slot_of T.counts T.given T.accepted now Outside Behind self.old supply.old self.new supply.new }
+        ensures led { LeadsBy S.call S.begins S.ends S.visiting P.slot_of T.counts T.given T.accepted (λ acts. packets_in acts ≡ 0) now Outside Behind self.old supply.old self.new supply.new }
         ensures ended { self.new.ending ≡ Some endings.Stalled }
         ensures over { self.new.client.conn.phase ≡ Ended }
     {

@@ -1,5 +1,5 @@
 //! Rounds: a connection goes on as far as it can without waiting.
-ghost use Rattle.std.specs.Prelude.{◌≡◌, ◌≢◌, ◌⊎◌, ◌<◌, [], length, if◌then◌else◌, None, Some, Ok, Err, true, false, OnOk, IfOk, IfErr};
+ghost use Rattle.std.specs.Prelude.{◌≡◌, ◌≢◌, ◌⊎◌, ◌<◌, ◌≤◌, [], length, if◌then◌else◌, None, Some, Ok, Err, true, false, OnOk, IfOk, IfErr};
 ghost use Rattle.conn_engine.specs.declared.phase.ConnPhase.TheVariants.{Ended};
 ghost use Rattle.conn_engine.specs.Looking.{IsSilentTooLong};
 ghost use Rattle.conn_service.specs.declared.served.Round.TheVariants as rounds;
@@ -8,11 +8,12 @@ ghost use Rattle.conn_service.specs.Crossings.{RefusesAlways};
 ghost use Rattle.conn_supply.specs.SupplyCalls.SupplyCall.{Kicked};
 ghost use Rattle.conn_engine.specs.declared.input.Input.TheVariants as inputs;
 ghost use Rattle.conn_service.specs.Moments.{is_tick_for, still_drained};
-ghost use Rattle.conn_service.specs.Services.{HasNoMore, IsAnswered, IsOnTime, IsServed, Describes, IdlesTick, KeepsEdge, KeepsEdgeAt, KeepsEnough};
+ghost use Rattle.conn_service.specs.Services.{HasNoMore, IsAnswered, IsOnTime, IsServed, Describes, IdlesTick, KeepsEdge, KeepsEdgeAt, KeepsEnough, most_packets};
+ghost use Rattle.conn_service.specs.Acts.{packets_in};
 ghost use Rattle.conn_service.specs.Directions.{Follows, reads, writes};
 ghost use Rattle.conn_service.specs.Visits.{Behind, Inside, Outside};
-ghost use Rattle.conn_service.specs.Lives.{IsDue, Leads};
-ghost use Rattle.conn_service.specs.Advances.{IsDoneOrAdvances, LeadsBy, RoundsTo, TellsOfRound, TellsOfVisit, WritesFirst};
+ghost use Rattle.conn_service.specs.Lives.{IsDue};
+ghost use Rattle.conn_service.specs.Advances.{CountsPackets, IsDoneOrAdvances, LeadsBy, RoundsTo, TellsOfRound, TellsOfVisit, WritesFirst};
 
 use crate::served::{Direction, Round, Served};
 use crate::service::Service;
@@ -23,9 +24,16 @@ use transport::{Crossing, Got, Transport};
 /// After how many milliseconds without a Tick a round makes one.
 const TICK_PERIOD: u64 = 50;
 
+/// How many packets a round steps at most, so that a client that floods with small packets does not hold up those that are served beside it. What is left is stepped in
+/// the next rounds, before more is read.
+const MOST_PACKETS: usize = 64;
+
 impl<P: HoldingPlace, T: Transport> Service<P, T> {
     /// Goes on as far as it can without waiting, at this moment in milliseconds, and tells what it waits for: what waits is written, what came is read,
     /// once, into the buffer, which has room, and stepped packet by packet, and what that says is written.
+    ///
+    /// It steps 64 packets at most. What is left of what came is stepped in the next rounds, before anything more is read, and until then it tells
+    /// [`Round::More`], where nothing waits to be written.
     ///
     /// Inbound, what that says is left to a later round. Outbound, nothing is read, and it ticks instead, so that its client is handed what it has room for.
     pub fn round<S: Supply<P>, X: Crossing>(
@@ -86,7 +94,7 @@ impl<P: HoldingPlace, T: Transport> Service<P, T> {
     ) -> Result<bool, Served>
         requires going { self.old.ending ≡ None }
         requires room { 0 < length buffer.old }
-        ensures led { LeadsBy S.call S.begins S.ends S.visiting P.slot_of T.counts T.given T.accepted (λ acts. WritesFirst self.old self.new acts × (reads direction ≡ true → TellsOfRound result self.new acts)) now Outside Behind self.old supply.old self.new supply.new }
+        ensures led { LeadsBy S.call S.begins S.ends S.visiting P.slot_of T.counts T.given T.accepted (λ acts. (packets_in acts ≤ most_packets) × WritesFirst self.old self.new acts × (reads direction ≡ true → TellsOfRound result self.new acts)) now Outside Behind self.old supply.old self.new supply.new }
         ensures all { result ≡ Ok true → IsServed self.new now }
         ensures not_over { OnOk result (self.new.outgoing ≡ [] → self.new.client.conn.phase ≢ Ended) }
         ensures timely { OnOk result (self.new.outgoing ≡ [] → IsOnTime self.new now) }
@@ -116,7 +124,7 @@ impl<P: HoldingPlace, T: Transport> Service<P, T> {
     ) -> Result<bool, Served>
         requires going { self.old.ending ≡ None }
         requires room { 0 < length buffer.old }
-        ensures led { LeadsBy S.call S.begins S.ends S.visiting P.slot_of T.counts T.given T.accepted (λ acts. reads ≡ true → TellsOfVisit result self.new acts) now Outside Behind self.old supply.old self.new supply.new }
+        ensures led { LeadsBy S.call S.begins S.ends S.visiting P.slot_of T.counts T.given T.accepted (λ acts. (packets_in acts ≤ most_packets) × (reads ≡ true → TellsOfVisit result self.new acts)) now Outside Behind self.old supply.old self.new supply.new }
         ensures all { result ≡ Ok true → IsServed self.new now }
         ensures timely { result ≡ Ok false → self.old.outgoing ≡ [] → IsOnTime self.new now }
         ensures waits { OnOk result (self.old.outgoing ≢ [] → self.new.outgoing ≢ []) }
@@ -151,7 +159,7 @@ impl<P: HoldingPlace, T: Transport> Service<P, T> {
         requires not_over { self.old.client.conn.phase ≢ Ended }
         requires visiting { S.visiting supply.old ≡ is_open }
         requires room { 0 < length buffer.old }
-        ensures led { LeadsBy S.call S.begins S.ends S.visiting P.slot_of T.counts T.given T.accepted (λ acts. reads ≡ true → IfOk result (λ all. IsDoneOrAdvances all self.new acts)) now (Inside is_open) (Inside is_open) self.old supply.old self.new supply.new }
+        ensures led { LeadsBy S.call S.begins S.ends S.visiting P.slot_of T.counts T.given T.accepted (λ acts. (packets_in acts ≤ most_packets) × (reads ≡ true → IfOk result (λ all. IsDoneOrAdvances all self.new acts))) now (Inside is_open) (Inside is_open) self.old supply.old self.new supply.new }
         ensures all { result ≡ Ok true → IsServed self.new now }
         ensures timely { result ≡ Ok false → self.old.outgoing ≡ [] → IsOnTime self.new now }
         ensures waits { OnOk result (self.old.outgoing ≢ [] → self.new.outgoing ≢ []) }
@@ -175,7 +183,7 @@ impl<P: HoldingPlace, T: Transport> Service<P, T> {
         requires going { self.old.ending ≡ None }
         requires not_over { self.old.client.conn.phase ≢ Ended }
         requires shut { S.visiting supply.old ≡ false }
-        ensures led { LeadsBy S.call S.begins S.ends S.visiting P.slot_of T.counts T.given T.accepted (λ acts. IfOk result (λ all. IsDoneOrAdvances all self.new acts)) now (Inside false) (Inside false) self.old supply.old self.new supply.new }
+        ensures led { LeadsBy S.call S.begins S.ends S.visiting P.slot_of T.counts T.given T.accepted (λ acts. (packets_in acts ≡ 0) × IfOk result (λ all. IsDoneOrAdvances all self.new acts)) now (Inside false) (Inside false) self.old supply.old self.new supply.new }
         ensures all { result ≡ Ok true → IsServed self.new now }
         ensures timely { result ≡ Ok false → self.old.outgoing ≡ [] → IsOnTime self.new now }
         ensures waits { OnOk result (self.old.outgoing ≢ [] → self.new.outgoing ≢ []) }
@@ -191,7 +199,7 @@ impl<P: HoldingPlace, T: Transport> Service<P, T> {
     }
 
     /// Where something waits to be written, it is stepped only if it is taken over or overdue. Else it ticks, if it is time or it is not to be read;
-    /// and then what is left from the round before is stepped, and what comes is read.
+    /// and then what is left from the round before is stepped, and what comes is read and stepped, 64 packets at most in all.
     fn proceed<S: Supply<P>>(
         &mut self,
         supply: &mut S,
@@ -203,7 +211,7 @@ impl<P: HoldingPlace, T: Transport> Service<P, T> {
         requires not_over { self.old.client.conn.phase ≢ Ended }
         requires visiting { S.visiting supply.old ≡ true }
         requires room { 0 < length buffer.old }
-        ensures led { LeadsBy S.call S.begins S.ends S.visiting P.slot_of T.counts T.given T.accepted (λ acts. reads ≡ true → IfOk result (λ all. IsDoneOrAdvances all self.new acts)) now (Inside true) (Inside true) self.old supply.old self.new supply.new }
+        ensures led { LeadsBy S.call S.begins S.ends S.visiting P.slot_of T.counts T.given T.accepted (λ acts. (packets_in acts ≤ most_packets) × (reads ≡ true → IfOk result (λ all. IsDoneOrAdvances all self.new acts))) now (Inside true) (Inside true) self.old supply.old self.new supply.new }
         ensures all { result ≡ Ok true → IsServed self.new now }
         ensures timely { result ≡ Ok false → self.old.outgoing ≡ [] → IsOnTime self.new now }
         ensures waits { OnOk result (self.old.outgoing ≢ [] → self.new.outgoing ≢ []) }
@@ -223,33 +231,35 @@ impl<P: HoldingPlace, T: Transport> Service<P, T> {
         }
         let due = !reads || self.is_tick_due(now);
         self.tick_if(supply, now, due)?;
-        if !self.step_each(supply, now)? {
+        let mut left = MOST_PACKETS;
+        if !self.step_each(supply, now, &mut left)? {
             return Ok(false);
         }
-        if !self.read(supply, now, buffer, reads)? {
+        if !self.read(supply, now, buffer, reads, &mut left)? {
             return Ok(false);
         }
         self.end_input(supply, now)?;
         Ok(true)
     }
 
-    /// Reads, if it is to be read and may be, and steps by what came: a read that gives nothing is a Tick, and so is each one while the connection waits for its session.
-    /// Whether all that is whole was stepped.
+    /// Reads, if it is to be read and may be, and steps by what came, as many packets as are left to be stepped: a read that gives nothing is a Tick, and so is each one
+    /// while the connection waits for its session. Whether all that is whole was stepped.
     fn read<S: Supply<P>>(
         &mut self,
         supply: &mut S,
         now: u64,
         buffer: &mut [u8],
         reads: bool,
+        left: &mut usize,
     ) -> Result<bool, Served>
         requires going { self.old.ending ≡ None }
         requires answered { IsAnswered self.old }
         requires visiting { S.visiting supply.old ≡ true }
         requires room { 0 < length buffer.old }
         requires on_time { IsOnTime self.old now }
-        ensures led { LeadsBy S.call S.begins S.ends S.visiting P.slot_of T.counts T.given T.accepted (λ acts. reads ≡ true → result ≡ Ok true → self.new.at_end ≡ false → IsDoneOrAdvances true self.new acts) now (Inside true) (Inside true) self.old supply.old self.new supply.new }
+        ensures led { LeadsBy S.call S.begins S.ends S.visiting P.slot_of T.counts T.given T.accepted (λ acts. CountsPackets result left.old left.new acts × (reads ≡ true → result ≡ Ok true → self.new.at_end ≡ false → IsDoneOrAdvances true self.new acts)) now (Inside true) (Inside true) self.old supply.old self.new supply.new }
         ensures all { result ≡ Ok true → IsServed self.new now }
-        ensures full { result ≡ Ok false → self.new.outgoing ≢ [] }
+        ensures full { result ≡ Ok false → (self.new.outgoing ≢ []) ⊎ (left.new ≡ 0) }
         ensures timely { OnOk result (IsOnTime self.new now) }
         ensures no_crossing { result ≢ Err endings.NoCrossing }
         ensures going { OnOk result (self.new.ending ≡ None) }
@@ -266,7 +276,7 @@ impl<P: HoldingPlace, T: Transport> Service<P, T> {
         let got = self.read_once(buffer)?;
         let due = is_tick(got, !self.client.wants_input());
         self.tick_if(supply, now, due)?;
-        self.step_each(supply, now)
+        self.step_each(supply, now, left)
     }
 
     /// Where the stream has ended, and all that is whole was stepped, its end is stepped, unless the connection is over.
@@ -274,7 +284,7 @@ impl<P: HoldingPlace, T: Transport> Service<P, T> {
         requires going { self.old.ending ≡ None }
         requires answered { IsAnswered self.old }
         requires visiting { S.visiting supply.old ≡ true }
-        ensures led { Leads S.call S.begins S.ends S.visiting P.slot_of T.counts T.given T.accepted now (Inside true) (Inside true) self.old supply.old self.new supply.new }
+        ensures led { LeadsBy S.call S.begins S.ends S.visiting P.slot_of T.counts T.given T.accepted (λ acts. packets_in acts ≡ 0) now (Inside true) (Inside true) self.old supply.old self.new supply.new }
         ensures over { OnOk result ((self.new.client.conn.phase ≡ Ended) ⊎ ((self.new ≡ self.old) × (self.old.at_end ≡ false))) }
         ensures no_crossing { result ≢ Err endings.NoCrossing }
         ensures going { OnOk result (self.new.ending ≡ None) }
@@ -293,7 +303,7 @@ impl<P: HoldingPlace, T: Transport> Service<P, T> {
         requires due { due ≡ true → IsDue S.call S.begins S.ends S.visiting P.slot_of T.counts T.given T.accepted inputs.Tick now self.old supply.old }
         requires going { self.old.ending ≡ None }
         requires visiting { S.visiting supply.old ≡ true }
-        ensures led { Leads S.call S.begins S.ends S.visiting P.slot_of T.counts T.given T.accepted now (Inside true) (Inside true) self.old supply.old self.new supply.new }
+        ensures led { LeadsBy S.call S.begins S.ends S.visiting P.slot_of T.counts T.given T.accepted (λ acts. packets_in acts ≡ 0) now (Inside true) (Inside true) self.old supply.old self.new supply.new }
         ensures no_crossing { result ≢ Err endings.NoCrossing }
         ensures going { OnOk result (self.new.ending ≡ None) }
         ensures ended { IfErr result (λ served. self.new.ending ≡ Some served) }
@@ -323,7 +333,7 @@ impl<P: HoldingPlace, T: Transport> Service<P, T> {
 
     /// Whether a Tick can't wait until the transport takes more: it is overdue, or another connection asked for its session, which the supply says.
     fn is_urgent<S: Supply<P>>(&self, supply: &mut S, now: u64) -> bool
-        ensures led { Leads S.call S.begins S.ends S.visiting P.slot_of T.counts T.given T.accepted now (Inside true) (Inside true) self.now supply.old self.now supply.new }
+        ensures led { LeadsBy S.call S.begins S.ends S.visiting P.slot_of T.counts T.given T.accepted (λ acts. packets_in acts ≡ 0) now (Inside true) (Inside true) self.now supply.old self.now supply.new }
         ensures urgent { result ≡ true → IsSilentTooLong self.now.client.conn.phase now ⊎ ((asked : S) × S.call asked (Kicked self.now.client.conn.number true) supply.new) }
         ensures visiting { S.visiting supply.new ≡ S.visiting supply.old }
     {

@@ -6,6 +6,7 @@ mod alone;
 mod bytes_changed;
 mod counting;
 mod failing;
+mod flooding;
 mod noting;
 mod played;
 mod together;

@@ -1,5 +1,5 @@
 -- One round more.
-use Rattle.std.proofs.Common.{[], ◌∷◌, ◌++◌}
+use Rattle.std.proofs.Common.{[], ◌∷◌, ◌++◌, arith}
 use Rattle.conn_service.proofs.Leading.{rounds_on}
 use Rattle.conn_service.proofs.serving.serve_on.Goals as goal
 
@@ -22,7 +22,7 @@ returns-then-is_refused-clause-served g c = record {
       c.round.new.self c.stall.new.self c.args.supply.now c.round.new.supply c.stall.new.supply
       (rounds_on g.S.Supply.call g.S.Supply.begins g.S.Supply.ends g.S.Supply.visiting g.P.Place.slot_of g.T.Transport.counts g.T.Transport.given g.T.Transport.accepted c.rounds.invariant.moments c.now-now.result c.args.service
       c.rounds.service c.round.new.self c.args.supply.now c.rounds.supply c.round.new.supply c.rounds.invariant.led c.round.ensures.led.made)
-      (record { led = c.stall.ensures.led; asks = λ waits going. cc (c.stall.ensures.ended, going) });
+      (record { led = c.stall.ensures.led.led; asks = λ waits going. cc (c.stall.ensures.ended, going); few = omega (arith, c.stall.ensures.led.told) });
   ending = c.stall.ensures.ended;
   over = c.stall.ensures.over;
   left = c.end-then-is_refused.ensures;

@@ -6,7 +6,8 @@ pub returns-clause-all : goal.returns-clause-all
 returns-clause-all g c done = inl (c.in_ok-step.ensures.last tt)
 
 pub returns-in_err-step-clause-led : goal.returns-in_err-step-clause-led
-returns-in_err-step-clause-led g c = record { led = c.step.ensures.led false c.requires.shut; told = search rules }
+returns-in_err-step-clause-led g c = let closed = c.step.ensures.led false c.requires.shut in record { led = closed.led; told = (closed.told, search rules) }
 
 pub returns-clause-led : goal.returns-clause-led
-returns-clause-led g c = record { led = c.step.ensures.led false c.requires.shut; told = λ none. inl (refl, inr (inl (c.in_ok-step.ensures.last tt))) }
+returns-clause-led g c =
+    let closed = c.step.ensures.led false c.requires.shut in record { led = closed.led; told = (closed.told, (λ none. inl (refl, inr (inl (c.in_ok-step.ensures.last tt))))) }

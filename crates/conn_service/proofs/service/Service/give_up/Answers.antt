@@ -1,7 +1,15 @@
 -- A connection is given up.
-use Rattle.std.proofs.Common.{rules, sym}
+use Rattle.std.proofs.Common.{refl, rules, sym}
+use Rattle.conn_service.proofs.Leading.{leads_nothing}
 use Rattle.conn_service.proofs.OneStep.{abandoned, given_up_by}
 use Rattle.conn_service.proofs.service.Service.give_up.Goals as goal
+
+pub returns-then-has_ended-clause-led : goal.returns-then-has_ended-clause-led
+unfolding leads_nothing
+returns-then-has_ended-clause-led g c = record {
+  led = leads_nothing g.S.Supply.call g.S.Supply.begins g.S.Supply.ends g.S.Supply.visiting g.P.Place.slot_of g.T.Transport.counts g.T.Transport.given g.T.Transport.accepted c.args.self.now c.args.self.now c.args.supply.now c.args.supply.now refl refl;
+  told = refl;
+}
 
 pub returns-clause-led : goal.returns-clause-led
 returns-clause-led g c =
