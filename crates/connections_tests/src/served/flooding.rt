@@ -25,41 +25,43 @@ fn answers(alloc: Global, pings: u32) -> Result<Vec<u8>, AllocError> {
     Ok(answers)
 }
 
-/// The packets come in one read. After rounds that wait so, so many PINGREQ packets are answered.
-fn answers_after(
-    rt: &impl Abort,
-    alloc: Global,
-    rounds: &[Round],
-    pings: u32,
-) -> Result<(), AllocError> {
-    let stream = flood(alloc)?;
-    let scenario = Scenario {
-        input: &stream,
+/// A peer whose packets come in one read, and nothing after it for now.
+fn floods(stream: &[u8]) -> Scenario<'_> {
+    Scenario {
+        input: stream,
         reads: &[ReadTurn::AtMost(215), ReadTurn::Idle],
         ..Scenario::whole()
-    };
-    let mut supply = broker(rt, alloc);
-    let transport = scripted(rt, alloc, scenario);
-    let mut service = open(rt, alloc, 0, transport);
-    for round in rounds {
-        goes_on(rt, &mut service, &mut supply, 0, *round);
     }
+}
+
+/// The first round steps the CONNECT and 63 of the others.
+fn one_round(rt: &impl Abort, alloc: Global, stream: &[u8]) -> Result<(), AllocError> {
+    let mut supply = broker(rt, alloc);
+    let mut service = open(rt, alloc, 0, scripted(rt, alloc, floods(stream)));
+    goes_on(rt, &mut service, &mut supply, 0, Round::More);
     let transport = service.abandon(&mut supply, 0);
     supply.abandon();
-    assert_written(rt, transport.output(), &answers(alloc, pings)?);
+    assert_written(rt, transport.output(), &answers(alloc, 63)?);
     Ok(())
 }
 
-/// The first round steps the CONNECT and 63 of the others, the second the rest, and the third reads again.
+/// The second round steps the rest, and the third reads again.
+fn three_rounds(rt: &impl Abort, alloc: Global, stream: &[u8]) -> Result<(), AllocError> {
+    let mut supply = broker(rt, alloc);
+    let mut service = open(rt, alloc, 0, scripted(rt, alloc, floods(stream)));
+    goes_on(rt, &mut service, &mut supply, 0, Round::More);
+    goes_on(rt, &mut service, &mut supply, 0, Round::More);
+    goes_on(rt, &mut service, &mut supply, 0, Round::Reading);
+    let transport = service.abandon(&mut supply, 0);
+    supply.abandon();
+    assert_written(rt, transport.output(), &answers(alloc, 99)?);
+    Ok(())
+}
+
 #[test]
 fn flood_of_pings(rt: HostRuntime) -> Result<(), Fail> {
-    answers_after(&rt, rt.alloc(), &[Round::More], 63)?;
-    answers_after(&rt, rt.alloc(), &[Round::More, Round::More], 99)?;
-    answers_after(
-        &rt,
-        rt.alloc(),
-        &[Round::More, Round::More, Round::Reading],
-        99,
-    )?;
+    let stream = flood(rt.alloc())?;
+    one_round(&rt, rt.alloc(), &stream)?;
+    three_rounds(&rt, rt.alloc(), &stream)?;
     Ok(())
 }
