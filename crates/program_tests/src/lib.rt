@@ -7,7 +7,11 @@ mod asserting;
 #[cfg(test)]
 mod devices;
 #[cfg(test)]
+mod running;
+#[cfg(test)]
 mod serving;
+#[cfg(test)]
+mod serving_ends;
 #[cfg(test)]
 mod statuses;
 #[cfg(test)]

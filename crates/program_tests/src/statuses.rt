@@ -1,61 +1,18 @@
-//! Each status once, and what then stands in the output and on the error output.
+//! Each status of a command that ends by itself, and what then stands in the output and on the error output.
 use crate::asserting::{assert_items, assert_same, assert_same_at};
 use crate::devices::{Broken, Narrow};
+use crate::running::{has, ran};
 use crate::words::words_of;
 use program::run;
-use std::alloc::{AllocError, Global};
 use std::io;
-use std::io::{ErrorKind, Read};
-use std::net::{Ipv4Addr, Net, SocketAddr, TcpListener, TcpStream};
-use std::random::RandomSource;
-use std::rt::{Clock, Files};
-use std::sync::Wait;
+use std::io::ErrorKind;
 use std::test::Fail;
-use std::thread::Threads;
 
 /// A CONNECT.
 const CONNECTED: &[u8] = b"100F00044D5154540502003C0000027731\n";
 
 /// The answer to it: a CONNACK with Maximum QoS 1, no retained messages, Maximum Packet Size 65,536 and no subscription identifiers.
 const CONNACK: &str = "200c000009240125002700010000\n";
-
-/// What a broker says whose input has ended before it reads it.
-const AT_ITS_END: &str =
-    "error: standard input is at its end already, so the broker closes; --until killed serves until it is killed\n";
-
-/// How the program ended.
-#[derive(Drop)]
-pub(crate) struct Ended {
-    pub(crate) status: u8,
-    pub(crate) output: Vec<u8>,
-    pub(crate) errors: Vec<u8>,
-}
-
-/// The program, run with these words on this input.
-pub(crate) fn ran<H: Threads + Wait + Net + Clock + Files + RandomSource + Sync, R: Read + Send>(
-    rt: &H,
-    alloc: Global,
-    line: &str,
-    reader: &mut R,
-) -> Result<Ended, AllocError> {
-    let words = words_of(alloc, line)?;
-    let mut output = Vec::new(alloc);
-    let mut errors = Vec::new(alloc);
-    let exit = run(rt, alloc, Ok(words), reader, &mut output, &mut errors);
-    Ok(Ended {
-        status: exit.status,
-        output,
-        errors,
-    })
-}
-
-/// Whether a text has this part.
-fn has(text: &[u8], part: &str) -> bool {
-    match std::str::from_utf8(text) {
-        Ok(text) => text.contains(part),
-        Err(_) => false,
-    }
-}
 
 /// A command, what it reads, and what it writes.
 const COMMANDS: [(&str, &str, &str); 4] = [
@@ -217,114 +174,6 @@ fn wrong_words(rt: HostRuntime) -> Result<(), Fail> {
         assert_same_at(&rt, &has(&ended.errors, text), &true, line);
     }
     Ok(())
-}
-
-/// A broker whose input has ended and whose messages are all settled closes at once, and has written the port that it listened at and the report of its group.
-#[test]
-fn serving_ends(rt: HostRuntime) -> Result<(), Fail> {
-    let lines = [
-        "share_broker serve --port 0 --workers 1 --group g:job",
-        "share_broker serve --port 0 --workers 1 --group g:job --drain 86400",
-    ];
-    let report =
-        "\n$share/g/job accepted 0 acknowledged 0 refused 0 held 0 queued 0 returned 0 discarded 0\n";
-    for line in lines.iter() {
-        let ended = ran(&rt, rt.alloc(), line, &mut &b""[..])?;
-        assert_same_at(&rt, &ended.status, &0, line);
-        assert_same_at(&rt, &ended.output.starts_with(b"listening "), &true, line);
-        assert_same_at(&rt, &has(&ended.output, report), &true, line);
-        assert_items(&rt, ended.errors.as_slice(), AT_ITS_END.as_bytes());
-    }
-    Ok(())
-}
-
-/// What a log has of a broker whose input has ended: all that it does, in order, and nothing else.
-#[test]
-fn serving_with_a_log(rt: HostRuntime) -> Result<(), Fail> {
-    let line =
-        "share_broker serve --port 0 --workers 1 --group g:job --group h:# --drain 60 --log info";
-    let said = "\
-info: the share \"$share/g/job\" is bound to slot 0
-info: the share \"$share/h/#\" is bound to slot 1
-error: standard input is at its end already, so the broker closes; --until killed serves until it is killed
-info: standard input has ended
-info: the broker drains for 60 seconds at most
-info: drained: each job that was accepted is settled
-info: the broker closes
-";
-    let ended = ran(&rt, rt.alloc(), line, &mut &b""[..])?;
-    assert_same(&rt, &ended.status, &0);
-    assert_items(&rt, ended.errors.as_slice(), said.as_bytes());
-    Ok(())
-}
-
-/// A broker whose input fails says so where it is to say what went wrong, before the line of the error.
-#[test]
-fn serving_whose_input_fails(rt: HostRuntime) -> Result<(), Fail> {
-    let rows = [
-        ("share_broker serve --port 0 --workers 1", "device\n"),
-        (
-            "share_broker serve --port 0 --workers 1 --log error",
-            "error: standard input failed\ndevice\n",
-        ),
-    ];
-    for (line, said) in rows.iter() {
-        let ended = ran(&rt, rt.alloc(), line, &mut Broken)?;
-        assert_same_at(&rt, &ended.status, &3, line);
-        assert_items(&rt, ended.errors.as_slice(), said.as_bytes());
-    }
-    Ok(())
-}
-
-/// A broker that is to serve until it is killed ends where its address is not to be had, and has read nothing.
-#[test]
-fn serving_until_killed_fails(rt: HostRuntime) -> Result<(), Fail> {
-    let line = "share_broker serve --port 0 --address 203.0.113.1 --until killed";
-    let mut reader = CONNECTED;
-    let ended = ran(&rt, rt.alloc(), line, &mut reader)?;
-    assert_same(&rt, &ended.status, &3);
-    assert_same(&rt, &reader.len(), &CONNECTED.len());
-    assert_same(&rt, &ended.output.len(), &0);
-    assert_items(
-        &rt,
-        ended.errors.as_slice(),
-        "device: the address is not one of this machine\n".as_bytes(),
-    );
-    Ok(())
-}
-
-/// How a broker ends whose words name a port behind these that another listener has.
-fn ran_at_taken_port<
-    H: Threads
-        + Wait
-        + Net<Listener = TcpListener, Stream = TcpStream>
-        + Clock
-        + Files
-        + RandomSource
-        + Sync,
->(rt: &H, alloc: Global, words: &str) -> Option<Ended> {
-    let listener = TcpListener::bind(rt, SocketAddr::from((Ipv4Addr::LOCALHOST, 0))).ok()?;
-    let port = listener.local_addr().ok()?.port();
-    let line = format!(in alloc; "{words} {port}").ok()?;
-    ran(rt, alloc, line.as_str(), &mut Broken).ok()
-}
-
-/// A broker is told which of its ports is in use.
-#[test]
-fn a_port_in_use(rt: HostRuntime) {
-    let rows = [
-        ("share_broker serve --port", "device: the port is in use\n"),
-        (
-            "share_broker serve --port 0 --metrics",
-            "device: the port of the metrics is in use\n",
-        ),
-    ];
-    for (words, said) in rows.iter() {
-        let ended = ran_at_taken_port(&rt, rt.alloc(), words).expect(&rt, "a listener");
-        assert_same_at(&rt, &ended.status, &3, words);
-        assert_same(&rt, &ended.output.len(), &0);
-        assert_items(&rt, ended.errors.as_slice(), said.as_bytes());
-    }
 }
 
 /// Words that could not be read: one is no text, or memory was refused.

@@ -1,7 +1,7 @@
 //! `hash-password`, and `serve --users`.
 use crate::asserting::{assert_items, assert_same, assert_same_at};
 use crate::devices::Broken;
-use crate::statuses::ran;
+use crate::running::ran;
 use std::alloc::Global;
 use std::test::Fail;
 use users::{SharedUsers, Users};
