@@ -139,6 +139,24 @@ fn share(word: &'static str) -> Option<Share> {
     Share::parse(Text::parse(Bytes::from_static(word.as_bytes()))?).ok()
 }
 
+// The error of a file of two users, each with a client identifier.
+fn error_of_two(alloc: Global, one: &str, other: &str) -> Result<Option<UsersError>, Fail> {
+    let text = format!(in alloc; "ann:{STORED}\n client {one}\nbob:{STORED}\n client {other}\n")?;
+    Ok(Users::parse(alloc, text.as_bytes()).err())
+}
+
+#[test]
+fn client_identifier_of_two_users(rt: HostRuntime) -> Result<(), Fail> {
+    let alloc = rt.alloc();
+    let taken = Some(UsersError::Line(4));
+    assert_same(&rt, &error_of_two(alloc, "press-7", "press-7")?, &taken);
+    assert_same(&rt, &error_of_two(alloc, "press-7", "press-8")?, &None);
+    assert_same(&rt, &error_of_two(alloc, "press-7", "Press-7")?, &None);
+    let twice = error_of(alloc, " client press-7\n client press-7")?;
+    assert_same(&rt, &twice, &Some(UsersError::Line(3)));
+    Ok(())
+}
+
 #[test]
 fn lines_of_rights(rt: HostRuntime) -> Result<(), Fail> {
     for line in GRANTED {

@@ -1,10 +1,12 @@
 -- The lines of a users file that say what a user may do, ` publish FILTER`, ` work SHARE` and ` client IDENTIFIER` (profile).
-use Rattle.std.specs.Prelude.{ℕ, ◌&&◌, nat_le, bytes_eq, if◌then◌else◌, List, [], ◌∷◌, ◌++◌, length, codes, Option, Some, None}
+use Rattle.std.specs.Prelude.{ℕ, ◌&&◌, nat_le, bytes_eq, Bool, false, if◌then◌else◌, List, [], ◌∷◌, ◌++◌, length, codes, Option, Some, None}
+use Rattle.std.specs.List.{list_any}
 use Rattle.std.specs.Option.{option_map}
 use Rattle.std.specs.Result.{result_ok}
 use Rattle.mqtt_packet.specs.Texts.{is_text}
 use Rattle.mqtt_topic.specs.Names.{filter_of, share_of}
 use Rattle.users.specs.Cuts.{◌>>=◌, cut, without_blanks}
+use Rattle.users.specs.Rights.{owns_client}
 use Rattle.users.specs.Table.{Rights, StoredUser, UserTable}
 use Rattle.users.specs.declared.right.Right.{Right}
 use Rattle.users.specs.declared.right.Right.TheVariants.{Publish, Work, Client}
@@ -50,7 +52,13 @@ onto_last right [] = None
 onto_last right (user ∷ []) = Some ((user.0, granted user.1 right) ∷ [])
 onto_last right (user ∷ next ∷ users) = option_map (λ others. user ∷ others) (onto_last right (next ∷ users))
 
--- a table after a right, where it is one
+-- a right is a client identifier that a user of the table has, this one or another; no other right is taken
+abbrev pub is_taken : UserTable → Right → Bool
+is_taken table (Publish filter) = false
+is_taken table (Work share) = false
+is_taken table (Client client) = list_any (λ user. owns_client user.1.rights client) table
+
+-- a table whose last user has this right more: none where there is no right, or it is a client identifier that is taken
 abbrev pub with_grant : UserTable → Option Right → Option UserTable
 with_grant table None = None
-with_grant table (Some right) = onto_last right table
+with_grant table (Some right) = if is_taken table right then None else onto_last right table

@@ -1,10 +1,12 @@
 //! The users that the lines of a file spell.
 ghost use Rattle.std.specs.Prelude.{◌≡◌, IfErr, IfOk, MatchBool, None, Ok, Some};
+ghost use Rattle.std.specs.List.{list_any};
 ghost use Rattle.std.specs.Option.{option_map};
-ghost use Rattle.users.specs.Granting.{onto_last, right_of, with_grant};
+ghost use Rattle.users.specs.Granting.{is_taken, onto_last, right_of, with_grant};
 ghost use Rattle.users.specs.Layout.{seen};
 ghost use Rattle.users.specs.Lines.{is_passed_over, user_of, users_of, with_line, with_user};
 ghost use Rattle.users.specs.Refusals.{IsRefusal};
+ghost use Rattle.users.specs.Rights.{owns_client};
 
 use crate::cutting::{begins_blank, cut, split_line, without_return};
 use crate::error::UsersError;
@@ -106,7 +108,7 @@ fn add(
     Ok(true)
 }
 
-/// Gives the last user the right of a line; `false` where the line gives none, or there is no user.
+/// Gives the last user the right of a line; `false` where the line gives none, or a client identifier that a user has, or there is no user.
 fn add_right(
     alloc: Global,
     users: &mut IndexMap<Vec<u8>, StoredUser>,
@@ -116,10 +118,34 @@ fn add_right(
         (with_grant (seen users.old.entries) (right_of line.now) ≡ Some (seen users.new.entries))
         (with_grant (seen users.old.entries) (right_of line.now) ≡ None)) }
 {
-    match given_right(alloc, line)? {
-        Some(right) => grant(users, right),
-        None => Ok(false),
+    let Some(right) = given_right(alloc, line)? else {
+        return Ok(false);
+    };
+    if is_taken(users, &right) {
+        drop(right);
+        return Ok(false);
     }
+    grant(users, right)
+}
+
+/// Whether a right is a client identifier that a user has.
+#[tactic(auto, using(crate::proofs::Allowed::any_mapped))]
+fn is_taken(users: &IndexMap<Vec<u8>, StoredUser>, right: &Right) -> bool
+    ensures { result ≡ is_taken (seen users.now.entries) right.now }
+{
+    match right {
+        Right::Client(client) => has_owner(users, client.as_bytes()),
+        Right::Publish(_) | Right::Work(_) => false,
+    }
+}
+
+/// Whether a user has the client identifier.
+fn has_owner(users: &IndexMap<Vec<u8>, StoredUser>, client: &[u8]) -> bool
+    ensures { result ≡ list_any (λ entry. owns_client entry.1.rights client.now) users.now.entries }
+{
+    users
+        .iter()
+        .any(|(_, user)| user.rights.owns_client(client))
 }
 
 /// Gives the last user one right more; `false` where there is no user.

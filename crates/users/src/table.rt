@@ -36,7 +36,7 @@ impl Users {
     ///
     /// A line that begins with a space or a tab says what the last user before it may do: after the spaces and tabs in front stands `publish`, a space
     /// and a topic filter, or `work`, a space and a shared subscription `$share/NAME/FILTER`, or `client`, a space and a client identifier of 1 to 128
-    /// bytes; each of these is well-formed UTF-8 without U+0000. A user without such lines may do everything.
+    /// bytes that no earlier line gives; each of these is well-formed UTF-8 without U+0000. A user without such lines may do everything.
     ///
     /// # Errors
     ///
