@@ -4,8 +4,8 @@ use Rattle.std.specs.Int.{bit_at}
 use Rattle.std.specs.Prelude.{if◌then◌else◌, ◌==◌}
 use Rattle.std.proofs.lemmas.Bool.{eqb-true, eqb-false}
 use Rattle.std.proofs.lemmas.List.{append_assoc}
-use Rattle.bell.specs.declared.step.Step.{Step}
-use Rattle.bell.specs.declared.step.Step.TheVariants.{Called, Rang}
+use Rattle.bell.specs.declared.step.BellStep.{BellStep}
+use Rattle.bell.specs.declared.step.BellStep.TheVariants.{Called, Rang}
 use Rattle.bell.specs.History.{is_idle, was_called, wakes}
 use Rattle.bell.specs.Calls.{CallsDue, DueBelow, CalledBelow, Makes, Rings, ShowsIdle, is_due}
 use Rattle.bell.proofs.Counts.{wakes_more, called_before, called_behind}
@@ -14,10 +14,10 @@ not_last : (n k : ℕ) → n ≢ k → n < k + 1 → n < k
 not_last n k apart within = omega arith
 
 -- nobody was called yet
-pub none_called : (due : ℕ → Bool) (wanted : ℕ) (old : List Step) → CallsDue due 0 wanted 0 old old
+pub none_called : (due : ℕ → Bool) (wanted : ℕ) (old : List BellStep) → CallsDue due 0 wanted 0 old old
 none_called due wanted old = record { since = []; is = refl; most = omega arith; each = inr (λ worker below is. absurd (omega arith)); idle = omega arith }
 
-module _ (due : ℕ → Bool) (workers wanted woken : ℕ) (old new : List Step) (calls : CallsDue due workers wanted woken old new) where
+module _ (due : ℕ → Bool) (workers wanted woken : ℕ) (old new : List BellStep) (calls : CallsDue due workers wanted woken old new) where
   -- the next one was not due
   pub next_busy : due workers ≡ false → CallsDue due (workers + 1) wanted woken old new
   next_busy busy = record { since = calls.since; is = calls.is; most = calls.most; each = ⊎_elim inl (λ below. inr (each below)) calls.each; idle = calls.idle }
@@ -30,11 +30,11 @@ module _ (due : ℕ → Bool) (workers wanted woken : ℕ) (old new : List Step)
           by false is = let apart = eqb-false worker workers is in below worker (not_last worker workers apart within) is_due
 
   -- the next one was called
-  module _ (newer : List Step) (between : List Step) (made : newer ≡ Called workers ∷ (between ++ new)) where
+  module _ (newer : List BellStep) (between : List BellStep) (made : newer ≡ Called workers ∷ (between ++ new)) where
     together : newer ≡ (Called workers ∷ (between ++ calls.since)) ++ old
     together =
-        made ∙ ap (λ (h : List Step). Called workers ∷ (between ++ h)) calls.is
-        ∙ ap (λ (h : List Step). Called workers ∷ h) (sym (append_assoc between calls.since old))
+        made ∙ ap (λ (h : List BellStep). Called workers ∷ (between ++ h)) calls.is
+        ∙ ap (λ (h : List BellStep). Called workers ∷ h) (sym (append_assoc between calls.since old))
 
     each_more : DueBelow due workers calls.since → DueBelow due (workers + 1) (Called workers ∷ (between ++ calls.since))
     each_more below worker within is_due = by (worker == workers) refl
@@ -72,7 +72,7 @@ named_or_not found first worker idle = by (bit_at first worker == 1) refl
     by false is = inr (ap (λ (x : Bool). x && not (bit_at first worker == 1)) idle ∙ ap not is)
 
 -- a ring, and then its calls: first of those who are named, then of the others
-module _ (workers wanted named others found first : ℕ) (old rung mid new : List Step) (few : workers ≤ 32) (made : Makes Rang old rung) (shows : ShowsIdle found rung)
+module _ (workers wanted named others found first : ℕ) (old rung mid new : List BellStep) (few : workers ≤ 32) (made : Makes Rang old rung) (shows : ShowsIdle found rung)
     (calls : CallsDue (is_due found first true) workers wanted named rung mid) (more : CallsDue (is_due found first false) workers (wanted - named) others mid new) where
   both_each : DueBelow (is_due found first true) workers calls.since → DueBelow (is_due found first false) workers more.since → CalledBelow workers rung (more.since ++ calls.since)
   both_each below below' worker within idle =
@@ -95,10 +95,10 @@ module _ (workers wanted named others found first : ℕ) (old rung mid new : Lis
   ring_called = record {
     others = made.0;
     since = more.since ++ calls.since;
-    is = more.is ∙ ap (λ (h : List Step). more.since ++ h) calls.is ∙ sym (append_assoc more.since calls.since rung) ∙ ap (λ (h : List Step). (more.since ++ calls.since) ++ h) made.1;
+    is = more.is ∙ ap (λ (h : List BellStep). more.since ++ h) calls.is ∙ sym (append_assoc more.since calls.since rung) ∙ ap (λ (h : List BellStep). (more.since ++ calls.since) ++ h) made.1;
     most = (let one = calls.most in let two = more.most in omega arith);
-    each = ⊎_elim inl (λ below. inr (subst (λ (h : List Step). CalledBelow workers h (more.since ++ calls.since)) made.1 below)) each;
-    idle = (let one = subst (λ (h : List Step). named + wakes h ≤ wakes mid) made.1 calls.idle in let two = more.idle in omega arith);
+    each = ⊎_elim inl (λ below. inr (subst (λ (h : List BellStep). CalledBelow workers h (more.since ++ calls.since)) made.1 below)) each;
+    idle = (let one = subst (λ (h : List BellStep). named + wakes h ≤ wakes mid) made.1 calls.idle in let two = more.idle in omega arith);
   }
 
 -- there is room for one more

@@ -6,8 +6,8 @@ use Rattle.std.proofs.lemmas.Bool.{eqb-true, eqb-false}
 use Rattle.std.proofs.lemmas.Nat.{and_mask, and_shr, or_shr, or_disjoint, pow_below}
 use Rattle.std.proofs.lemmas.Nat.Bits.{bit_at_set_same, bit_at_set_other, bit_at_clear_same, bit_at_clear_other, bit_at_cat_low}
 use lib.Bits.{and_zero_r}
-use Rattle.bell.specs.declared.step.Step.{Step}
-use Rattle.bell.specs.declared.step.Step.TheVariants.{Listened, Settled, Rang, Called}
+use Rattle.bell.specs.declared.step.BellStep.{BellStep}
+use Rattle.bell.specs.declared.step.BellStep.TheVariants.{Listened, Settled, Rang, Called}
 use Rattle.bell.specs.History.{is_idle}
 use Rattle.bell.specs.Handles.{turn}
 use Rattle.bell.specs.Rule.{Shows, bit_of, all_but}
@@ -30,7 +30,7 @@ count_cleared word bit fits below =
     let small : word / turn < turn = omega arith in
     and_shr word (bit_not w64 bit) 32 ∙ ap (bit_and (word / turn)) ones ∙ and_mask (word / turn) 32 ∙ omega arith
 
-module _ (word : ℕ) (history : List Step) (fits : word < 2 ^ 64) (shows : Shows word history) where
+module _ (word : ℕ) (history : List BellStep) (fits : word < 2 ^ 64) (shows : Shows word history) where
   pub shows_settled : (worker : ℕ) → worker < 32 → Shows (bit_or word (bit_of worker)) (Settled worker ∷ history)
   shows_settled worker few = record {
     rung = count_set word (bit_of worker) (bit_below worker few) ∙ shows.rung;

@@ -1,6 +1,6 @@
 //! The bell, and the calls of it.
 ghost use Rattle.std.specs.Prelude.{◌≡◌, ◌≤◌, ◌<◌, ◌+◌, ◌==◌, ◌/◌, true, [], length, vec_capacity, IfOk, IfSome, IfNone, IsTrue};
-ghost use Rattle.bell.specs.declared.step.Step.TheVariants.{Called, Rang};
+ghost use Rattle.bell.specs.declared.step.BellStep.TheVariants.{Called, Rang};
 ghost use Rattle.bell.specs.History.{is_idle};
 ghost use Rattle.bell.specs.Rule.{IsPassOf, IsNew};
 ghost use Rattle.bell.specs.Calls.{AreListeners, AreListenersOf, AreRingers, AreRingersOf, Calls, CallsDue, Listens, Makes, Rings, Settles, ShowsIdle, Wakes, is_due};

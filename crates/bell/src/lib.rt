@@ -33,5 +33,5 @@ mod word;
 
 pub use bell::{Bell, BellError, MOST_WORKERS};
 pub use handles::{Listener, Ringer};
-pub use step::{Step, View};
+pub use step::{BellStep, BellView};
 pub use wake::{Call, Wake};

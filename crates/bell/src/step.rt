@@ -2,7 +2,7 @@
 use std::collections::LinkedList;
 
 /// One step on a bell's word.
-pub enum Step {
+pub enum BellStep {
     /// The worker listened: it isn't idle.
     Listened(u64),
     /// The worker settled: it is idle.
@@ -14,6 +14,6 @@ pub enum Step {
 }
 
 /// What a listener or a ringer knows: the history up to its own last step, the newest first.
-pub struct View {
-    pub history: LinkedList<Step>,
+pub struct BellView {
+    pub history: LinkedList<BellStep>,
 }

@@ -3,19 +3,19 @@
 //! there; each step is one more of it, and tells what the word was.
 ghost use Rattle.std.specs.Prelude.{◌≡◌, ◌<◌, ◌==◌, ◌/◌, []};
 ghost use Rattle.std.specs.Int.{bit_at};
-ghost use Rattle.bell.specs.declared.step.Step.TheVariants.{Listened, Settled, Rang, Called};
+ghost use Rattle.bell.specs.declared.step.BellStep.TheVariants.{Listened, Settled, Rang, Called};
 ghost use Rattle.bell.specs.Handles.{turn};
 ghost use Rattle.bell.specs.Rule.{IsPassOf, Tells};
 ghost use Rattle.bell.specs.Calls.{is_due as is_due_by};
 
-use crate::step::View;
+use crate::step::BellView;
 use atomic_table::{Play, Seat, Split, Table, TableRule};
 use std::alloc::Global;
 
 /// Some history leads to what the word is.
 pub struct Past;
 
-impl TableRule<(), View, usize> for Past {
+impl TableRule<(), BellView, usize> for Past {
     ghost use Rattle.std.specs.Prelude.{[]};
     ghost use Rattle.bell.specs.Rule.{HasPast};
 
@@ -24,15 +24,15 @@ impl TableRule<(), View, usize> for Past {
     ghost first = { λ _. record { history = [] } };
 }
 
-pub type Word = Table<(), View, usize, Past, Global>;
+pub type Word = Table<(), BellView, usize, Past, Global>;
 
-pub type Pass = Seat<(), View>;
+pub type Pass = Seat<(), BellView>;
 
 /// Clears the bit of a worker that listens.
 pub struct ClearingBit;
 
-impl Play<(), View> for ClearingBit {
-    ghost use Rattle.bell.specs.declared.step.Step.TheVariants.{Listened};
+impl Play<(), BellView> for ClearingBit {
+    ghost use Rattle.bell.specs.declared.step.BellStep.TheVariants.{Listened};
     ghost use Rattle.bell.specs.Rule.{all_but, TellsOfOne};
 
     ghost then = { λ operation. TellsOfOne Listened all_but operation.first };
@@ -41,8 +41,8 @@ impl Play<(), View> for ClearingBit {
 /// Sets the bit of a worker that settles.
 pub struct SettingBit;
 
-impl Play<(), View> for SettingBit {
-    ghost use Rattle.bell.specs.declared.step.Step.TheVariants.{Settled};
+impl Play<(), BellView> for SettingBit {
+    ghost use Rattle.bell.specs.declared.step.BellStep.TheVariants.{Settled};
     ghost use Rattle.bell.specs.Rule.{bit_of, TellsOfOne};
 
     ghost then = { λ operation. TellsOfOne Settled bit_of operation.first };
@@ -51,8 +51,8 @@ impl Play<(), View> for SettingBit {
 /// Counts a ring.
 pub struct CountingRing;
 
-impl Play<(), View> for CountingRing {
-    ghost use Rattle.bell.specs.declared.step.Step.TheVariants.{Rang};
+impl Play<(), BellView> for CountingRing {
+    ghost use Rattle.bell.specs.declared.step.BellStep.TheVariants.{Rang};
     ghost use Rattle.bell.specs.Rule.{Tells};
 
     ghost then = { λ _. Tells Rang };
@@ -61,8 +61,8 @@ impl Play<(), View> for CountingRing {
 /// Clears the bit of a worker that is called.
 pub struct Calling;
 
-impl Play<(), View> for Calling {
-    ghost use Rattle.bell.specs.declared.step.Step.TheVariants.{Called};
+impl Play<(), BellView> for Calling {
+    ghost use Rattle.bell.specs.declared.step.BellStep.TheVariants.{Called};
     ghost use Rattle.bell.specs.Rule.{all_but, TellsOfOne};
 
     ghost then = { λ operation. TellsOfOne Called all_but operation.first };
@@ -71,7 +71,7 @@ impl Play<(), View> for Calling {
 /// Makes one more who knows the same.
 pub struct Telling;
 
-impl Split<View> for Telling {
+impl Split<BellView> for Telling {
     ghost left = { λ v. v };
 
     ghost right = { λ v. v };

@@ -15,7 +15,7 @@ use Rattle.group_queue.specs.declared.posted.Posted.{Posted}
 use Rattle.group_queue.specs.declared.view.Bag.{Bag}
 use Rattle.group_queue.specs.declared.view.View.{View}
 use Rattle.group_queue.specs.Places.{PlaceState, Holds, IsHandedOut, KeepsPlace, SettlesHeld, GatherAnswers, GiveBackAnswers, TakeAnswers, TakeBackAnswers}
-use Rattle.shared_ledger.specs.declared.share.Share.{Share}
+use Rattle.shared_ledger.specs.declared.share.LedgerShare.{LedgerShare}
 use Rattle.shared_ledger.specs.Givers.{Gathers}
 use Rattle.group_queue.proofs.Checks.{positive, both}
 use Rattle.conn_supply.specs.declared.supply.NoMemory.{NoMemory}
@@ -136,11 +136,11 @@ pub reserved : (old new : PlaceState) → KeepsPlace old new → KeepsOut HasOut
 reserved old new is = of_kept old new is
 
 -- what a place gathers is not out at it
-gathers_out : (saw : List Ledger → List Share → Type 0) (old new : PlaceState) (answer : Result Bool JobError) → Gathers saw old.giver old.docket answer new.giver new.docket → new.docket.out ≡ old.docket.out
+gathers_out : (saw : List Ledger → List LedgerShare → Type 0) (old new : PlaceState) (answer : Result Bool JobError) → Gathers saw old.giver old.docket answer new.giver new.docket → new.docket.out ≡ old.docket.out
 gathers_out saw old new (Ok true) is = is.out
 gathers_out saw old new (Ok false) is = ap (λ d. d.out) is.1
 gathers_out saw old new (Err refusal) is = ap (λ d. d.out) is.1
 
-pub gathered : (saw : List Ledger → List Share → Type 0) (old new : PlaceState) (answer : Result Bool JobError) → GatherAnswers saw old answer new → KeepsOut HasOut old new
+pub gathered : (saw : List Ledger → List LedgerShare → Type 0) (old new : PlaceState) (answer : Result Bool JobError) → GatherAnswers saw old answer new → KeepsOut HasOut old new
 gathered saw old new answer is =
     keeps old new (record { group = ap (λ (p : PlaceState). p.group) is.1; number = ap (λ (p : PlaceState). p.number) is.1 }) (gathers_out saw old new answer is.0)

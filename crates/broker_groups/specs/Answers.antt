@@ -4,7 +4,7 @@ use Rattle.group_jobs.specs.declared.error.JobError.{JobError}
 use Rattle.group_jobs.specs.declared.error.JobError.TheVariants.{Memory}
 use Rattle.group_jobs.specs.Stamps.{Held}
 use Rattle.group_jobs.specs.declared.ledger.Ledger.{Ledger}
-use Rattle.shared_ledger.specs.declared.share.Share.{Share}
+use Rattle.shared_ledger.specs.declared.share.LedgerShare.{LedgerShare}
 use Rattle.group_queue.specs.declared.posted.Posted.{Posted}
 use Rattle.group_queue.specs.declared.view.Bag.{Bag}
 use Rattle.group_queue.specs.declared.view.View.{View}
@@ -18,7 +18,7 @@ in_group (Err refusal) = Err Memory
 -- what the witness of a broker's groups saw: of the queue of a group's ledger, of its main queue, and of its returns queue
 abbrev pub Sights : Type 1
 Sights = record {
-  saw_ledger : List Ledger → List Share → Type 0;
+  saw_ledger : List Ledger → List LedgerShare → Type 0;
   saw_main : List Posted → List View → Type 0;
   saw_returns : List Posted → List Bag → Type 0;
 }

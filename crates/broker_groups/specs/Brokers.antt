@@ -1,6 +1,7 @@
 -- Which gate, groups, ports and places are one broker's.
 use Rattle.std.specs.Prelude.{◌≡◌, ℕ, ◌<◌, List, [], length, slice_get, Some}
 use Rattle.std.proofs.Common.{Global}
+use Rattle.limits.specs.Limits.{most_groups, most_members}
 use Rattle.atomic_table.specs.Seated.{TableId}
 use Rattle.gate_word.specs.Seats.{GateId}
 use Rattle.group_queue.specs.Ports.{GroupId, PortState, IsPortOf}
@@ -29,13 +30,13 @@ no_group = record {
 
 -- these are a broker's groups, one for each slot, in the order of slots, behind its gate
 pub record AreBrokerGroups (gate : GateId) (group : ℕ → GroupId) (groups : List GroupId) : Type 0 where
-  pub all : length groups ≡ 8
+  pub all : length groups ≡ most_groups
   pub each : (slot : ℕ) (it : GroupId) → slice_get groups slot ≡ Some it → (it ≡ group slot) × (it.slot ≡ slot) × (it.gate ≡ gate)
 
 -- it is a place of the broker's group of its slot
 pub record IsBrokerPlace (group : ℕ → GroupId) (place : PlaceState) : Type 0 where
-  pub slot : place.group < 8
-  pub number : place.number < 32
+  pub slot : place.group < most_groups
+  pub number : place.number < most_members
   pub of : IsPlaceOf (group place.group) place
 
 -- it is a port of the broker's group of this slot
@@ -44,5 +45,5 @@ IsBrokerPort group slot port = (port.group ≡ slot) × IsPortOf (group slot) po
 
 -- these are ports of a broker, one of each group, in the order of slots
 pub record AreBrokerPorts (group : ℕ → GroupId) (ports : List PortState) : Type 0 where
-  pub all : length ports ≡ 8
+  pub all : length ports ≡ most_groups
   pub each : (slot : ℕ) (port : PortState) → slice_get ports slot ≡ Some port → IsBrokerPort group slot port

@@ -1,6 +1,7 @@
 -- The end of a broker's groups: each is ended with what is its own.
 use Rattle.std.specs.Prelude.{◌≡◌, ℕ, ◌<◌, min, List, [], ◌∷◌, ◌++◌, length, slice_get, Some, All, Result, IfErr}
 use Rattle.std.specs.Global.{Vec}
+use Rattle.limits.specs.Limits.{most_groups}
 use Rattle.group_jobs.specs.Stamps.{Held}
 use Rattle.group_jobs.specs.declared.report.Report.{Report}
 use Rattle.group_queue.specs.declared.finish.Unfinished.{Unfinished}
@@ -22,7 +23,7 @@ abbrev pub place_slot : PlaceState → ℕ
 place_slot place = place.group
 
 abbrev pub held_slot : Held → ℕ
-held_slot envelope = min envelope.stamp.group 8
+held_slot envelope = min envelope.stamp.group most_groups
 
 -- it is a place of the group of this slot
 abbrev pub IsPlaceAt : (ℕ → GroupId) → ℕ → PlaceState → Type 0
@@ -34,15 +35,15 @@ IsAny slot envelope = Unit {0}
 
 -- each group was ended with its own ports, places and messages
 pub record AreEnded {W : Type 0} (group : ℕ → GroupId) (ports : List (List PortState)) (places : List PlaceState) (held : List Held) (answers : List (Result Report (Unfinished W))) : Type 0 where
-  pub all : length answers ≡ 8
+  pub all : length answers ≡ most_groups
   -- the group of a slot has the number of that slot
-  pub slots : (slot : ℕ) → slot < 8 → (group slot).slot ≡ slot
+  pub slots : (slot : ℕ) → slot < most_groups → (group slot).slot ≡ slot
   pub each : (slot : ℕ) (answer : Result Report (Unfinished W)) → slice_get answers slot ≡ Some answer
       → Finishes (group slot) (at_slot port_slot slot (joined ports)) (at_slot place_slot slot places) (at_slot held_slot slot held) answer
 
 -- each group was ended with the row of its slot
 pub record AreFinished {W : Type 0} (group : ℕ → GroupId) (ports : List (Vec PortState)) (places : List (Vec PlaceState)) (held : List (Vec Held)) (answers : List (Result Report (Unfinished W))) : Type 0 where
-  pub all : length answers ≡ 8
+  pub all : length answers ≡ most_groups
   pub each : (slot : ℕ) (answer : Result Report (Unfinished W)) (its_ports : Vec PortState) (its_places : Vec PlaceState) (its_held : Vec Held)
       → slice_get answers slot ≡ Some answer → slice_get ports slot ≡ Some its_ports → slice_get places slot ≡ Some its_places → slice_get held slot ≡ Some its_held
       → Finishes (group slot) its_ports.items its_places.items its_held.items answer

@@ -1,6 +1,7 @@
 -- How opened groups get a broker's name, and what is then whose.
 use Rattle.std.specs.Prelude.{◌≡◌, ◌≤◌, ℕ, ◌+◌, ◌&&◌, nat_eq, if◌then◌else◌, List, [], ◌∷◌, ◌++◌, length, sum_by, slice_get, Some, All}
 use Rattle.std.specs.Global.{Vec}
+use Rattle.limits.specs.Limits.{most_groups}
 use Rattle.gate_word.specs.Seats.{GateId}
 use Rattle.group_queue.specs.Ports.{GroupId, PortState}
 use Rattle.group_queue.specs.Places.{PlaceState, IsNewPlace}
@@ -38,7 +39,7 @@ in_a_row (row ∷ rows) = row.items ++ in_a_row rows
 -- what was opened is a broker's of this name, for so many workers
 pub record IsOfBroker {W : Type 0} (gate : GateId) (group : ℕ → GroupId) (workers : ℕ) (opened : Opened W) : Type 0 where
   pub groups : AreBrokerGroups gate group opened.groups.items
-  pub rows : length opened.ports.items ≡ 8
+  pub rows : length opened.ports.items ≡ most_groups
   pub ports : AreRows group workers 0 opened.ports.items
   pub unsent : All (λ (row : Vec PortState). AreUnsent row.items) opened.ports.items
   pub places : All (λ (row : Vec PlaceState). All (IsBrokerPlace group) row.items) opened.places.items

@@ -1,5 +1,6 @@
 -- What `Ports::offer` answers.
 use Rattle.std.specs.Prelude.{◌≡◌, ◌⊎◌, ℕ, ◌<◌, ◌≤◌, List, slice_get, slice_set, Some, Result, Ok, Err}
+use Rattle.limits.specs.Limits.{most_groups}
 use Rattle.group_jobs.specs.declared.message.Message.{Message}
 use Rattle.group_jobs.specs.declared.stamp.Stamp.{Stamp}
 use Rattle.group_queue.specs.declared.error.NotTaken.{NotTaken}
@@ -32,5 +33,5 @@ told (Err refused) = Err (told_as refused.error)
 -- the answer is that of the slot's group; there is no group from slot 8 on, as if it were closed
 abbrev pub OffersTo : (ℕ → GroupId) → (List Posted → List View → Type 0) → List PortState → ℕ → Message → Result Stamp OfferRefusal → List PortState → Type 0
 OffersTo group saw old slot message answer new =
-    ((8 ≤ slot) × (answer ≡ Err refusal.Shut) × (new ≡ old))
-    ⊎ ((slot < 8) × ((given : Result Stamp NotTaken) × OffersThrough (group slot) saw old slot message given new × (answer ≡ told given)))
+    ((most_groups ≤ slot) × (answer ≡ Err refusal.Shut) × (new ≡ old))
+    ⊎ ((slot < most_groups) × ((given : Result Stamp NotTaken) × OffersThrough (group slot) saw old slot message given new × (answer ≡ told given)))

@@ -1,6 +1,7 @@
 -- A broker's groups as they are opened, and what they are under a broker's name.
 use Rattle.std.specs.Prelude.{◌≡◌, ℕ, List, length, slice_get, Option, Some, None, All}
 use Rattle.std.specs.Global.{Vec}
+use Rattle.limits.specs.Limits.{most_groups, most_members}
 use Rattle.gate_word.specs.Seats.{GateId}
 use Rattle.group_queue.specs.Ports.{GroupId, PortState, IsPortOf, AreNewPorts}
 use Rattle.group_queue.specs.Places.{PlaceState, IsPlaceOf, AreNewPlaces}
@@ -13,7 +14,7 @@ pub record IsOpened (gate : GateId) (capacity workers slot : ℕ) (group : Group
   pub gate_is : group.gate ≡ gate
   pub capacity_is : group.capacity ≡ capacity
   pub ports_are : group.shape.ports ≡ workers
-  pub places_are : group.shape.places ≡ 32
+  pub places_are : group.shape.places ≡ most_members
 
 -- all ports of a group, a worker one, which sent nothing
 pub record HasPorts (workers : ℕ) (group : GroupId) (ports : List PortState) : Type 0 where
@@ -36,7 +37,7 @@ pub record AreOpened (gate : GateId) (capacity workers count : ℕ) (groups : Li
 
 -- all eight
 abbrev pub IsBrokerOpened : {W : Type 0} → GateId → ℕ → ℕ → Opened W → Type 0
-IsBrokerOpened gate capacity workers opened = AreOpened gate capacity workers 8 opened.groups.items opened.ports.items opened.places.items
+IsBrokerOpened gate capacity workers opened = AreOpened gate capacity workers most_groups opened.groups.items opened.ports.items opened.places.items
 
 -- the name that a list of groups gives: the group of each slot
 abbrev pub or_none : Option GroupId → GroupId

@@ -6,7 +6,7 @@ ghost use Rattle.group_queue.specs.Ports.{GroupId};
 use group_queue::Witness;
 use std::marker::{Brand, PhantomData};
 
-/// Which gate and which groups a broker has: one group for each slot below [`SLOTS`]. What names a broker in its type belongs
+/// Which gate and which groups a broker has: one group for each slot below [`MOST_GROUPS`](limits::MOST_GROUPS). What names a broker in its type belongs
 /// to this gate and to these groups, wherever it lies: behind a lock, with a member, or with a thread.
 pub trait Broker {
     ghost use Rattle.std.specs.Prelude.{ℕ};

@@ -1,6 +1,7 @@
 //! How a broker's groups end: each with its own ports, places and envelopes.
 ghost use Rattle.std.specs.Prelude.{◌≡◌, ℕ, ◌≤◌, [], length, slice_get, Some, All, IfOk, IfErr, IfSome, vec_capacity};
 ghost use Rattle.std.specs.Global.{Vec};
+ghost use Rattle.limits.specs.Limits.{most_groups};
 ghost use Rattle.group_queue.specs.Ports.{PortState, IsPortOf};
 ghost use Rattle.group_queue.specs.Places.{PlaceState, IsPlaceOf};
 ghost use Rattle.broker_groups.specs.Brokers.{AreBrokerGroups};
@@ -8,7 +9,7 @@ ghost use Rattle.broker_groups.specs.Sorting.{at_slot, IsEmptyRow};
 ghost use Rattle.broker_groups.specs.Endings.{held_slot, joined, AreAgain, AreEnded, AreFinished, IsAgain, IsItsOwn};
 
 use crate::broker::Broker;
-use crate::groups::{BrokerGroups, SLOTS};
+use crate::groups::BrokerGroups;
 use crate::place::BrokerPlace;
 use crate::ports::Ports;
 use crate::sorting::{empty_rows, sort_held, sort_places, sort_ports};
@@ -16,6 +17,7 @@ use group_jobs::{Envelope, Report};
 use group_queue::{
     FinishError, LawfulWitness, Nobody, Place, Port, SharedGroup, Unfinished, Witness,
 };
+use limits::MOST_GROUPS;
 use std::alloc::{AllocError, Global};
 use std::sync::Wait;
 
@@ -91,7 +93,7 @@ where
         held: Vec<Envelope>,
     ) -> Result<Ended<'a, B::Seen>, Unended<'a, B>>
         ensures ended { IfOk result (λ ended. AreEnded B.group ports.items places.items held.items ended.answers.items) }
-        ensures strangers { IfOk result (λ ended. ended.strangers.items ≡ at_slot held_slot 8 held.items) }
+        ensures strangers { IfOk result (λ ended. ended.strangers.items ≡ at_slot held_slot most_groups held.items) }
         ensures left { IfErr result (λ left. (left.groups ≡ self.entry) × (left.ports.items ≡ ports.items) × (left.places.items ≡ places.items) × (left.held.items ≡ held.items)) }
     {
         match make_rows(alloc, &ports, places.len(), held.len()) {
@@ -113,17 +115,17 @@ fn make_rows<'a, B: Broker>(
     places: usize,
     held: usize,
 ) -> Result<(Rows<B::Seen>, AnswerRows<'a, B::Seen>), AllocError>
-    ensures ports { IfOk result (λ made. (length made.0.ports.items ≡ 8) × All (IsEmptyRow (length (joined ports.now))) made.0.ports.items) }
-    ensures places { IfOk result (λ made. (length made.0.places.items ≡ 8) × All (IsEmptyRow places) made.0.places.items) }
+    ensures ports { IfOk result (λ made. (length made.0.ports.items ≡ most_groups) × All (IsEmptyRow (length (joined ports.now))) made.0.ports.items) }
+    ensures places { IfOk result (λ made. (length made.0.places.items ≡ most_groups) × All (IsEmptyRow places) made.0.places.items) }
     ensures held { IfOk result (λ made. (length made.0.held.items ≡ 9) × All (IsEmptyRow held) made.0.held.items) }
-    ensures first { IfOk result (λ made. (made.1.first.items ≡ []) × (8 ≤ vec_capacity made.1.first)) }
-    ensures last { IfOk result (λ made. (made.1.last.items ≡ []) × (8 ≤ vec_capacity made.1.last)) }
+    ensures first { IfOk result (λ made. (made.1.first.items ≡ []) × (most_groups ≤ vec_capacity made.1.first)) }
+    ensures last { IfOk result (λ made. (made.1.last.items ≡ []) × (most_groups ≤ vec_capacity made.1.last)) }
 {
     let count = count_ports(ports).ok_or(AllocError)?;
-    let port_rows = empty_rows(alloc, SLOTS, count)?;
-    let place_rows = empty_rows(alloc, SLOTS, places)?;
+    let port_rows = empty_rows(alloc, MOST_GROUPS, count)?;
+    let place_rows = empty_rows(alloc, MOST_GROUPS, places)?;
     let answers = answer_rows(alloc)?;
-    match empty_rows(alloc, SLOTS + 1, held) {
+    match empty_rows(alloc, MOST_GROUPS + 1, held) {
         Ok(held_rows) => Ok((
             Rows {
                 ports: port_rows,
@@ -143,11 +145,11 @@ fn make_rows<'a, B: Broker>(
 
 /// Makes the room that the answers want.
 fn answer_rows<'a, W: Witness>(alloc: Global) -> Result<AnswerRows<'a, W>, AllocError>
-    ensures first { IfOk result (λ made. (made.first.items ≡ []) × (8 ≤ vec_capacity made.first)) }
-    ensures last { IfOk result (λ made. (made.last.items ≡ []) × (8 ≤ vec_capacity made.last)) }
+    ensures first { IfOk result (λ made. (made.first.items ≡ []) × (most_groups ≤ vec_capacity made.first)) }
+    ensures last { IfOk result (λ made. (made.last.items ≡ []) × (most_groups ≤ vec_capacity made.last)) }
 {
-    let first = Vec::with_capacity(alloc, usize::from(SLOTS))?;
-    match Vec::with_capacity(alloc, usize::from(SLOTS)) {
+    let first = Vec::with_capacity(alloc, usize::from(MOST_GROUPS))?;
+    match Vec::with_capacity(alloc, usize::from(MOST_GROUPS)) {
         Ok(last) => Ok(AnswerRows { first, last }),
         Err(error) => {
             first.destroy_empty();
@@ -180,13 +182,13 @@ fn end<'a, B: Broker, R: Wait>(
 ) -> Ended<'a, B::Seen>
 where
     B::Seen: LawfulWitness,
-    requires ports { (length rows.ports.items ≡ 8) × All (IsEmptyRow (length (joined ports.items))) rows.ports.items }
-    requires places { (length rows.places.items ≡ 8) × All (IsEmptyRow (length places.items)) rows.places.items }
+    requires ports { (length rows.ports.items ≡ most_groups) × All (IsEmptyRow (length (joined ports.items))) rows.ports.items }
+    requires places { (length rows.places.items ≡ most_groups) × All (IsEmptyRow (length places.items)) rows.places.items }
     requires held { (length rows.held.items ≡ 9) × All (IsEmptyRow (length held.items)) rows.held.items }
-    requires first { (answers.first.items ≡ []) × (8 ≤ vec_capacity answers.first) }
-    requires last { (answers.last.items ≡ []) × (8 ≤ vec_capacity answers.last) }
+    requires first { (answers.first.items ≡ []) × (most_groups ≤ vec_capacity answers.first) }
+    requires last { (answers.last.items ≡ []) × (most_groups ≤ vec_capacity answers.last) }
     ensures ended { AreEnded B.group ports.items places.items held.items result.answers.items }
-    ensures strangers { result.strangers.items ≡ at_slot held_slot 8 held.items }
+    ensures strangers { result.strangers.items ≡ at_slot held_slot most_groups held.items }
 {
     let Rows {
         ports: mut port_rows,
@@ -219,10 +221,10 @@ fn finish_each<'a, B: Broker, R: Wait>(
 where
     B::Seen: LawfulWitness,
     requires groups { AreBrokerGroups B.gate B.group groups.items }
-    requires many { (length ports.items ≡ 8) × (length places.items ≡ 8) × (length held.items ≡ 8) }
+    requires many { (length ports.items ≡ most_groups) × (length places.items ≡ most_groups) × (length held.items ≡ most_groups) }
     requires ports { (slot : ℕ) (row : Vec PortState) → slice_get ports.items slot ≡ Some row → All (IsPortOf (B.group slot)) row.items }
     requires places { (slot : ℕ) (row : Vec PlaceState) → slice_get places.items slot ≡ Some row → All (IsPlaceOf (B.group slot)) row.items }
-    requires answers { (answers.items ≡ []) × (8 ≤ vec_capacity answers) }
+    requires answers { (answers.items ≡ []) × (most_groups ≤ vec_capacity answers) }
     ensures { AreFinished B.group ports.items places.items held.items result.items }
 {
     let mut answers = answers;

@@ -1,14 +1,12 @@
 //! The groups of a broker, which threads share by reference.
 ghost use Rattle.std.specs.Prelude.{◌≡◌, ◌<◌};
+ghost use Rattle.limits.specs.Limits.{most_groups};
 ghost use Rattle.broker_groups.specs.Brokers.{AreBrokerGroups};
 
 use crate::broker::Broker;
 use crate::opening::abandon_all;
 use group_queue::SharedGroup;
 use std::marker::{Model, PhantomData};
-
-/// How many groups a broker has.
-pub const SLOTS: u8 = 8;
 
 /// The groups of a broker, one for each slot, after the broker's gate.
 ///
@@ -33,7 +31,7 @@ impl<'a, B: Broker> Model for BrokerGroups<'a, B> {
 impl<'a, B: Broker> BrokerGroups<'a, B> {
     /// The group of a slot.
     pub fn group(&self, slot: u8) -> &SharedGroup<'a, B::Seen>
-        requires { slot < 8 }
+        requires { slot < most_groups }
         ensures group { result.now ≡ B.group slot }
         ensures slot { result.now.slot ≡ slot }
         ensures gate { result.now.gate ≡ B.gate }

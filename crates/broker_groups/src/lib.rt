@@ -28,9 +28,9 @@ mod sorting;
 
 pub use broker::{Broker, BrokerName, Witnessed};
 pub use ending::{Ended, Unended};
-pub use groups::{BrokerGroups, SLOTS};
+pub use groups::BrokerGroups;
 pub use key::Key;
 pub use naming::Named;
-pub use opening::{Opened, PLACES};
+pub use opening::Opened;
 pub use place::BrokerPlace;
 pub use ports::Ports;

@@ -1,5 +1,6 @@
 //! How opened groups get a broker's name: what each worker publishes through, and all places.
 ghost use Rattle.std.specs.Prelude.{◌≡◌, ℕ, ◌+◌, ◌++◌, length, sum_by, All, IfOk};
+ghost use Rattle.limits.specs.Limits.{most_groups};
 ghost use Rattle.group_queue.specs.Ports.{PortState};
 ghost use Rattle.broker_groups.specs.Brokers.{IsBrokerPlace, IsBrokerPort};
 ghost use Rattle.broker_groups.specs.Naming.{in_a_row, worth_of_all, worth_of_rows, AreNewPlacesOf, AreRows, AreUnsent, HasNoneOut, IsHand, IsOfBroker};
@@ -73,7 +74,7 @@ fn name_members<B: Broker>(
     ports: Vec<Vec<Port<B::Seen>>>,
     places: Vec<Vec<Place<B::Seen>>>,
 ) -> Result<(Vec<Ports<B>>, Vec<BrokerPlace<B>>), JobError>
-    requires rows { length ports.items ≡ 8 }
+    requires rows { length ports.items ≡ most_groups }
     requires ports { AreRows B.group workers 0 ports.items }
     requires places { All (λ row. All (IsBrokerPlace B.group) row.items) places.items }
     ensures workers { IfOk result (λ named. length named.0.items ≡ workers) }
@@ -92,9 +93,9 @@ fn take_ports<B: Broker>(
     workers: u8,
     rows: Vec<Vec<Port<B::Seen>>>,
 ) -> Result<Vec<Vec<Port<B::Seen>>>, JobError>
-    requires all { length rows.items ≡ 8 }
+    requires all { length rows.items ≡ most_groups }
     requires rows { AreRows B.group workers 0 rows.items }
-    ensures hands { IfOk result (λ hands. All (IsHand B.group 8) hands.items) }
+    ensures hands { IfOk result (λ hands. All (IsHand B.group most_groups) hands.items) }
     ensures many { IfOk result (λ hands. length hands.items ≡ workers) }
     ensures ports { IfOk result (λ hands. (worth : PortState → ℕ) → worth_of_rows worth hands.items ≡ worth_of_rows worth rows.items) }
 {
@@ -153,7 +154,7 @@ fn name_hands<B: Broker>(
     alloc: Global,
     hands: Vec<Vec<Port<B::Seen>>>,
 ) -> Result<Vec<Ports<B>>, JobError>
-    requires { All (IsHand B.group 8) hands.items }
+    requires { All (IsHand B.group most_groups) hands.items }
     ensures many { IfOk result (λ named. length named.items ≡ length hands.items) }
     ensures ports { IfOk result (λ named. (worth : PortState → ℕ) → worth_of_all worth named.items ≡ worth_of_rows worth hands.items) }
 {

@@ -1,16 +1,14 @@
 //! How a broker's groups are opened: eight at one gate, with a port of each group for each worker and all places.
 ghost use Rattle.std.specs.Prelude.{◌≡◌, ◌≤◌, IfOk};
+ghost use Rattle.limits.specs.Limits.{most_ports, most_waiting};
 ghost use Rattle.broker_groups.specs.Openings.{IsBrokerOpened, named_by};
 ghost use Rattle.broker_groups.specs.Naming.{IsOfBroker};
 
-use crate::groups::SLOTS;
 use gate_word::Gate;
 use group_jobs::JobError;
 use group_queue::{LawfulWitness, Nobody, Place, Port, SharedGroup, Witness};
+use limits::{MOST_GROUPS, MOST_MEMBERS};
 use std::alloc::Global;
-
-/// How many places a group has.
-pub const PLACES: u8 = 32;
 
 /// The groups of one broker as they were opened, one for each slot, in the order of slots, with the ports and the places of
 /// each.
@@ -33,16 +31,23 @@ impl<'a, W: LawfulWitness> Opened<'a, W> {
         capacity: usize,
         workers: u8,
     ) -> Result<Opened<'a, W>, JobError>
-        requires capacity { (1 ≤ capacity) × (capacity ≤ 65536) }
-        requires workers { (1 ≤ workers) × (workers ≤ 64) }
+        requires capacity { (1 ≤ capacity) × (capacity ≤ most_waiting) }
+        requires workers { (1 ≤ workers) × (workers ≤ most_ports) }
         ensures opened { IfOk result (IsBrokerOpened gate.entry.now capacity workers) }
         ensures named { IfOk result (λ opened. IsOfBroker gate.entry.now (named_by opened.groups.items) workers opened) }
     {
-        let mut ports = Vec::with_capacity(alloc, usize::from(SLOTS))?;
-        let mut places = Vec::with_capacity(alloc, usize::from(SLOTS))?;
-        let mut groups = Vec::with_capacity(alloc, usize::from(SLOTS))?;
-        'slots: for slot in 0..SLOTS {
-            match SharedGroup::open_with_witness(alloc, gate, slot, workers, PLACES, capacity) {
+        let mut ports = Vec::with_capacity(alloc, usize::from(MOST_GROUPS))?;
+        let mut places = Vec::with_capacity(alloc, usize::from(MOST_GROUPS))?;
+        let mut groups = Vec::with_capacity(alloc, usize::from(MOST_GROUPS))?;
+        'slots: for slot in 0..MOST_GROUPS {
+            match SharedGroup::open_with_witness(
+                alloc,
+                gate,
+                slot,
+                workers,
+                MOST_MEMBERS,
+                capacity,
+            ) {
                 Ok((group, its_ports, its_places)) => {
                     groups.push_reserved(group);
                     ports.push_reserved(its_ports);

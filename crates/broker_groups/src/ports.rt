@@ -1,14 +1,16 @@
 //! What a worker publishes through: a port of each of a broker's groups.
 ghost use Rattle.std.specs.Prelude.{◌≡◌, ◌<◌};
+ghost use Rattle.limits.specs.Limits.{most_groups};
 ghost use Rattle.broker_groups.specs.Brokers.{AreBrokerPorts};
 ghost use Rattle.broker_groups.specs.Offering.{OffersThrough, OffersTo, told_as};
 
 use crate::broker::Broker;
-use crate::groups::{BrokerGroups, SLOTS};
+use crate::groups::BrokerGroups;
 use conn_supply::OfferRefusal;
 use gate_word::Turn;
 use group_jobs::{SharedMessage, Stamp};
 use group_queue::{NotTaken, OfferError, Port};
+use limits::MOST_GROUPS;
 use std::marker::{Model, PhantomData};
 use std::sync::Wait;
 
@@ -47,7 +49,7 @@ impl<B: Broker> Ports<B> {
     /// # Errors
     ///
     /// [`OfferRefusal::LifeSpent`] and [`OfferRefusal::Full`] where the group refuses it so, as
-    /// [`SharedGroup::offer`](group_queue::SharedGroup::offer) says, and [`OfferRefusal::Shut`] for a slot from [`SLOTS`] on,
+    /// [`SharedGroup::offer`](group_queue::SharedGroup::offer) says, and [`OfferRefusal::Shut`] for a slot from [`MOST_GROUPS`] on,
     /// which has no group. The ports are unchanged then.
     pub fn offer<R: Wait>(
         &mut self,
@@ -60,7 +62,7 @@ impl<B: Broker> Ports<B> {
         requires { turn.now.gate ≡ B.gate }
         ensures { OffersTo B.group B.Seen.saw_main self.old slot message result self.new }
     {
-        if slot >= SLOTS {
+        if slot >= MOST_GROUPS {
             return Err(OfferRefusal::Shut);
         }
         match self.offer_through(groups, rt, turn, slot, message) {
@@ -78,7 +80,7 @@ impl<B: Broker> Ports<B> {
         slot: u8,
         message: SharedMessage,
     ) -> Result<Stamp, NotTaken>
-        requires slot { slot < 8 }
+        requires slot { slot < most_groups }
         requires turn { turn.now.gate ≡ B.gate }
         ensures { OffersThrough (B.group slot) B.Seen.saw_main self.old slot message result self.new }
     {

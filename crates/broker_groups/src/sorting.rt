@@ -1,17 +1,18 @@
 //! How ports, places and envelopes are sorted by the slots of their groups, into rows whose room was made before.
 ghost use Rattle.std.specs.Prelude.{◌≡◌, ◌<◌, ◌++◌, List, [], length, slice_get, Some, All, IfOk, vec_len, vec_capacity};
 ghost use Rattle.std.specs.Global.{Vec};
+ghost use Rattle.limits.specs.Limits.{most_groups};
 ghost use Rattle.group_queue.specs.Ports.{PortState};
 ghost use Rattle.broker_groups.specs.Brokers.{IsBrokerPort};
 ghost use Rattle.broker_groups.specs.Sorting.{AreSorted, IsEmptyRow, Puts};
 ghost use Rattle.broker_groups.specs.Endings.{held_slot, joined, place_slot, port_slot, IsAny, IsPlaceAt};
 
 use crate::broker::Broker;
-use crate::groups::SLOTS;
 use crate::place::BrokerPlace;
 use crate::ports::Ports;
 use group_jobs::Envelope;
 use group_queue::{Place, Port};
+use limits::MOST_GROUPS;
 use std::alloc::{AllocError, Global};
 
 /// So many empty rows, each with room for so many.
@@ -61,8 +62,8 @@ pub(crate) fn sort_places<B: Broker>(
     places: Vec<BrokerPlace<B>>,
     rows: &mut Vec<Vec<Place<B::Seen>>>,
 )
-    requires { AreSorted (IsPlaceAt B.group) place_slot 8 places.items places.items rows.old.items }
-    ensures { AreSorted (IsPlaceAt B.group) place_slot 8 places.items [] rows.new.items }
+    requires { AreSorted (IsPlaceAt B.group) place_slot most_groups places.items places.items rows.old.items }
+    ensures { AreSorted (IsPlaceAt B.group) place_slot most_groups places.items [] rows.new.items }
 {
     for place in places {
         let place = place.into_place();
@@ -72,8 +73,8 @@ pub(crate) fn sort_places<B: Broker>(
 
 /// Sorts the ports of all workers.
 pub(crate) fn sort_ports<B: Broker>(all: Vec<Ports<B>>, rows: &mut Vec<Vec<Port<B::Seen>>>)
-    requires { AreSorted (IsBrokerPort B.group) port_slot 8 (joined all.items) (joined all.items) rows.old.items }
-    ensures { AreSorted (IsBrokerPort B.group) port_slot 8 (joined all.items) [] rows.new.items }
+    requires { AreSorted (IsBrokerPort B.group) port_slot most_groups (joined all.items) (joined all.items) rows.old.items }
+    ensures { AreSorted (IsBrokerPort B.group) port_slot most_groups (joined all.items) [] rows.new.items }
 {
     for ports in all {
         put_ports(ports, rows);
@@ -82,9 +83,9 @@ pub(crate) fn sort_ports<B: Broker>(all: Vec<Ports<B>>, rows: &mut Vec<Vec<Port<
 
 /// Sorts the ports of a worker, before those of others.
 fn put_ports<B: Broker>(ports: Ports<B>, rows: &mut Vec<Vec<Port<B::Seen>>>)
-    requires { (all rest : List PortState) × AreSorted (IsBrokerPort B.group) port_slot 8 all (ports ++ rest) rows.old.items }
-    ensures { (all rest : List PortState) → AreSorted (IsBrokerPort B.group) port_slot 8 all (ports ++ rest) rows.old.items
-        → AreSorted (IsBrokerPort B.group) port_slot 8 all rest rows.new.items }
+    requires { (all rest : List PortState) × AreSorted (IsBrokerPort B.group) port_slot most_groups all (ports ++ rest) rows.old.items }
+    ensures { (all rest : List PortState) → AreSorted (IsBrokerPort B.group) port_slot most_groups all (ports ++ rest) rows.old.items
+        → AreSorted (IsBrokerPort B.group) port_slot most_groups all rest rows.new.items }
 {
     for port in ports.into_ports() {
         put(rows, usize::from(port.slot()), port);
@@ -98,7 +99,7 @@ pub(crate) fn sort_held(held: Vec<Envelope>, rows: &mut Vec<Vec<Envelope>>)
 {
     let mut rest = held.into_iter();
     'held: while let Some(envelope) = rest.next() {
-        let slot = envelope.stamp().group.min(SLOTS);
+        let slot = envelope.stamp().group.min(MOST_GROUPS);
         put(rows, usize::from(slot), envelope);
     }
     rest.destroy_empty();

@@ -8,7 +8,7 @@ use mathlib.Core.Option.{some, some-injective, some-ne-none}
 use lib.ListN.{get_elem?}
 use Rattle.atomic_table.specs.Table.{Me, keeps, Allows, Splits, Joins, opening}
 use Rattle.atomic_table.proofs.Lists.{at_set, at_snoc}
-use Rattle.call_history.specs.declared.word.View.{View}
+use Rattle.call_history.specs.declared.word.HistoryView.{HistoryView}
 use Rattle.call_history.specs.Numbers.{numbers, times, once_below}
 use Rattle.call_history.specs.Callers.{CallerState, all_parts, new_caller}
 use Rattle.call_history.specs.Rule.{caller, caller_of, first, spent, without_right, less_one, shown, met, met_if, adding, Fits, IsOne, Adds, Compares}
@@ -36,21 +36,21 @@ module _ {E : Type 0} where
   pub onward : (xs ys more : List E) → IsPrefix xs ys → IsPrefix xs (ys ++ more)
   onward xs ys more is = (is.0 ++ more, sym (append_assoc xs is.0 more) ∙ ap (λ l. l ++ more) is.1)
 
-  abbrev parts_of : View E → ℕ
+  abbrev parts_of : HistoryView E → ℕ
   parts_of v = v.parts
 
-  abbrev times_of : ℕ → View E → ℕ
+  abbrev times_of : ℕ → HistoryView E → ℕ
   times_of number v = times number v.own
 
-  abbrev AllFit : ℕ → List E → List (View E) → Type 0
-  AllFit seat history views = (by : ℕ) (v : View E) → get_elem? views by ≡ some v → Fits seat history by v
+  abbrev AllFit : ℕ → List E → List (HistoryView E) → Type 0
+  AllFit seat history views = (by : ℕ) (v : HistoryView E) → get_elem? views by ≡ some v → Fits seat history by v
 
-  fits_set : (seat : ℕ) (history : List E) (views : List (View E)) (by : ℕ) (w : View E)
-      → ((j : ℕ) (u : View E) → j ≢ by → get_elem? views j ≡ some u → Fits seat history j u) → Fits seat history by w
+  fits_set : (seat : ℕ) (history : List E) (views : List (HistoryView E)) (by : ℕ) (w : HistoryView E)
+      → ((j : ℕ) (u : HistoryView E) → j ≢ by → get_elem? views j ≡ some u → Fits seat history j u) → Fits seat history by w
       → AllFit seat history (set views by w)
   fits_set seat history views by w others mine j u e =
       ⊎_elim
-      (λ (x : (j ≡ by) × (w ≡ u)). subst (λ (y : ℕ × View E). Fits seat history y.0 y.1) (λ i. (sym x.0 i, x.1 i)) mine)
+      (λ (x : (j ≡ by) × (w ≡ u)). subst (λ (y : ℕ × HistoryView E). Fits seat history y.0 y.1) (λ i. (sym x.0 i, x.1 i)) mine)
       (λ (x : (j ≢ by) × (get_elem? views j ≡ some u)). others j u x.0 x.1)
       (at_set views by j w u e)
 
@@ -69,7 +69,7 @@ module _ {E : Type 0} where
     once = none_yet;
   }
     where
-      one : (by : ℕ) (v : View E) → get_elem? (first ∷ []) by ≡ some v → Fits 0 [] by v
+      one : (by : ℕ) (v : HistoryView E) → get_elem? (first ∷ []) by ≡ some v → Fits 0 [] by v
       one zero v e = subst (Fits 0 [] 0) (some-injective _ _ e) (record { keeps = (λ _. (refl, refl)); calls = ([], refl); other = ([], refl); no_part = λ _. refl })
       one (suc by) v e = absurd (some-ne-none v (sym e))
 
@@ -81,17 +81,17 @@ module _ {E : Type 0} where
           by false is = refl
 
   -- a pass becomes another one that has as many parts, and that has made more calls
-  changed : (views : List (View E)) (by : ℕ) (v w : View E) → get_elem? views by ≡ some v → w.parts ≡ v.parts → sum_by parts_of views ≡ all_parts → sum_by parts_of (set views by w) ≡ all_parts
+  changed : (views : List (HistoryView E)) (by : ℕ) (v w : HistoryView E) → get_elem? views by ≡ some v → w.parts ≡ v.parts → sum_by parts_of views ≡ all_parts → sum_by parts_of (set views by w) ≡ all_parts
   changed views by v w at same all = omega (arith, same, all, sum_at parts_of views by v w at)
 
-  pub adds : (slots by : ℕ) (me : Me (Unit {0}) (View E)) (added : List E) → me.0.keeps ≡ true → 0 < me.0.parts
+  pub adds : (slots by : ℕ) (me : Me (Unit {0}) (HistoryView E)) (added : List E) → me.0.keeps ≡ true → 0 < me.0.parts
       → Allows IsOne slots by me 0 (λ n. n) (λ _. Adds added me)
   adds slots by me added does part s one _ at _ =
       let v = me.0 in
       let mine = one.each by v at in
       let whole = mine.keeps does in
       let history = one.history ++ added in
-      let w : View E = adding v added in
+      let w : HistoryView E = adding v added in
       let count : length v.calls ≡ length one.history = ap length whole.1 in (
         w,
         keeps,
@@ -135,13 +135,13 @@ module _ {E : Type 0} where
       length_on (x ∷ xs) ys = (let rest = length_on xs ys in omega arith)
 
   -- a pass is cut in two, whose parts are those of the one, and whose calls
-  cut : (by : ℕ) (v left right : View E) → (left.keeps ≡ v.keeps) → (left.calls ≡ v.calls) → ((h : List E) → IsPrefix v.other h → IsPrefix left.other h) → (left.parts ≡ 0 → left.own ≡ [])
+  cut : (by : ℕ) (v left right : HistoryView E) → (left.keeps ≡ v.keeps) → (left.calls ≡ v.calls) → ((h : List E) → IsPrefix v.other h → IsPrefix left.other h) → (left.parts ≡ 0 → left.own ≡ [])
       → ((seat : ℕ) (history : List E) (j : ℕ) → IsPrefix v.calls history → Fits seat history by v → Fits seat history j right)
       → left.parts + right.parts ≡ v.parts → ((number : ℕ) → times number left.own + times number right.own ≡ times number v.own)
       → Splits IsOne by v left right
   cut by v left right same_keeps same_calls other own fits parts calls_are s one at =
       let mine = one.each by v at in
-      let vs : List (View E) = set s.views by left in
+      let vs : List (HistoryView E) = set s.views by left in
       let left_fits : Fits one.seat one.history by left = record {
         keeps = λ k. (let was = mine.keeps (sym same_keeps ∙ k) in (was.0, same_calls ∙ was.1));
         calls = subst (λ l. IsPrefix l one.history) (sym same_calls) mine.calls;
@@ -160,25 +160,25 @@ module _ {E : Type 0} where
             omega (arith, calls_are number, one.once number, sum_at (times_of number) s.views by v left at, sum_by_push (times_of number) vs right);
       }
 
-  pub gives : (by : ℕ) (v : View E) → Splits IsOne by v (without_right v) (caller (caller_of v))
+  pub gives : (by : ℕ) (v : HistoryView E) → Splits IsOne by v (without_right v) (caller (caller_of v))
   gives by v =
       cut by v (without_right v) (caller (caller_of v)) refl refl (λ h _. (h, refl)) (λ _. refl)
       (λ seat history j is fits. fits_caller seat history j (caller_of v) is fits.no_part)
       (omega arith) (λ number. omega arith)
 
-  pub shares : (by : ℕ) (v : View E) → 1 < v.parts → Splits IsOne by v (less_one v) (caller (new_caller v.calls))
+  pub shares : (by : ℕ) (v : HistoryView E) → 1 < v.parts → Splits IsOne by v (less_one v) (caller (new_caller v.calls))
   shares by v several =
       cut by v (less_one v) (caller (new_caller v.calls)) refl refl (λ h is. is) (λ none. absurd (omega (arith, several, none)))
       (λ seat history j is fits. fits_caller seat history j (new_caller v.calls) is (λ none. absurd (omega (arith, none))))
       (omega (arith, several)) (λ number. omega arith)
 
   -- a pass takes another in, and has its parts and its calls
-  taken_in : (by : ℕ) (v : View E) (other : ℕ) (u both : View E)
+  taken_in : (by : ℕ) (v : HistoryView E) (other : ℕ) (u both : HistoryView E)
       → ((seat : ℕ) (history : List E) → Fits seat history by v → Fits seat history other u → Fits seat history by both)
       → both.parts ≡ v.parts + u.parts → both.own ≡ v.own ++ u.own
       → Joins IsOne by v other u both spent
   taken_in by v other u both fits parts calls s one at apart there =
-      let vs : List (View E) = set s.views by both in
+      let vs : List (HistoryView E) = set s.views by both in
       let was : get_elem? s.views other ≡ some u = ⊎_elim (λ (t : (other ≡ by) × (both ≡ u)). absurd (apart t.0)) (λ (t : (other ≢ by) × (get_elem? s.views other ≡ some u)). t.1) (at_set s.views by other both u there) in
       record {
         seat = one.seat;
@@ -192,38 +192,38 @@ module _ {E : Type 0} where
             omega (arith, all, one.once number, sum_at (times_of number) s.views by v both at, sum_at (times_of number) vs other u spent there);
       }
 
-  nobodys : (v w : View E) → (v.parts ≡ 0 → v.own ≡ []) → (w.parts ≡ 0 → w.own ≡ []) → v.parts + w.parts ≡ 0 → v.own ++ w.own ≡ []
+  nobodys : (v w : HistoryView E) → (v.parts ≡ 0 → v.own ≡ []) → (w.parts ≡ 0 → w.own ≡ []) → v.parts + w.parts ≡ 0 → v.own ++ w.own ≡ []
   nobodys v w one other none = ap (λ l. l ++ w.own) (one (omega (arith, none))) ∙ other (omega (arith, none))
 
-  pub shows : (by : ℕ) (v : View E) (other : ℕ) (u : View E) → Joins IsOne by v other u (shown v u) spent
+  pub shows : (by : ℕ) (v : HistoryView E) (other : ℕ) (u : HistoryView E) → Joins IsOne by v other u (shown v u) spent
   shows by v other u =
       taken_in by v other u (shown v u)
       (λ seat history mine theirs. record { keeps = mine.keeps; calls = mine.calls; other = theirs.calls; no_part = nobodys v u mine.no_part theirs.no_part })
       refl refl
 
-  fits_met : (seat : ℕ) (history : List E) (by other : ℕ) (v w : View E) → Fits seat history by v → Fits seat history other w → (less : Bool) → Fits seat history by (met_if less v w)
+  fits_met : (seat : ℕ) (history : List E) (by other : ℕ) (v w : HistoryView E) → Fits seat history by v → Fits seat history other w → (less : Bool) → Fits seat history by (met_if less v w)
   fits_met seat history by other v w mine theirs true =
       record { keeps = (λ e. absurd (off e)); calls = theirs.calls; other = mine.calls; no_part = nobodys v w mine.no_part theirs.no_part }
   fits_met seat history by other v w mine theirs false =
       record { keeps = (λ e. absurd (off e)); calls = mine.calls; other = theirs.calls; no_part = nobodys v w mine.no_part theirs.no_part }
 
-  met_parts : (v w : View E) (less : Bool) → (met_if less v w).parts ≡ v.parts + w.parts
+  met_parts : (v w : HistoryView E) (less : Bool) → (met_if less v w).parts ≡ v.parts + w.parts
   met_parts v w true = refl
   met_parts v w false = refl
 
-  pub met_own : (v w : View E) (less : Bool) → (met_if less v w).own ≡ v.own ++ w.own
+  pub met_own : (v w : HistoryView E) (less : Bool) → (met_if less v w).own ≡ v.own ++ w.own
   met_own v w true = refl
   met_own v w false = refl
 
-  pub meets : (by : ℕ) (v : View E) (other : ℕ) (u : View E) → Joins IsOne by v other u (met v u) spent
+  pub meets : (by : ℕ) (v : HistoryView E) (other : ℕ) (u : HistoryView E) → Joins IsOne by v other u (met v u) spent
   meets by v other u =
       taken_in by v other u (met v u) (λ seat history mine theirs. fits_met seat history by other v u mine theirs _) (met_parts v u _) (met_own v u _)
 
-  pub compares : (slots by : ℕ) (me : Me (Unit {0}) (View E)) → Allows IsOne slots by me 0 (λ n. n) (λ _. Compares me)
+  pub compares : (slots by : ℕ) (me : Me (Unit {0}) (HistoryView E)) → Allows IsOne slots by me 0 (λ n. n) (λ _. Compares me)
   compares slots by me s one _ at _ =
       let v = me.0 in
       let mine = one.each by v at in
-      let w : View E = caller (caller_of v) in (
+      let w : HistoryView E = caller (caller_of v) in (
         w,
         keeps,
         tt,
@@ -238,21 +238,21 @@ module _ {E : Type 0} where
       )
 
   -- what two that met know is what one of them knew, which the other began
-  begins_if : (v w : View E) (less : Bool) → nat_lt (length v.calls) (length w.calls) ≡ less → length (met_if less v w).other ≤ length (met_if less v w).calls
+  begins_if : (v w : HistoryView E) (less : Bool) → nat_lt (length v.calls) (length w.calls) ≡ less → length (met_if less v w).other ≤ length (met_if less v w).calls
   begins_if v w true is = grind (arith, is)
   begins_if v w false is = grind (arith, is)
 
-  both_if : (v w : View E) (less : Bool) → IsPrefix (met_if less v w).other (met_if less v w).calls → IsPrefix v.calls (met_if less v w).calls × IsPrefix w.calls (met_if less v w).calls
+  both_if : (v w : HistoryView E) (less : Bool) → IsPrefix (met_if less v w).other (met_if less v w).calls → IsPrefix v.calls (met_if less v w).calls × IsPrefix w.calls (met_if less v w).calls
   both_if v w true is = (is, self w.calls)
   both_if v w false is = (self v.calls, is)
 
-  pub both : (v w : View E) → (length (met v w).other ≤ length (met v w).calls → IsPrefix (met v w).other (met v w).calls)
+  pub both : (v w : HistoryView E) → (length (met v w).other ≤ length (met v w).calls → IsPrefix (met v w).other (met v w).calls)
       → IsPrefix v.calls (met v w).calls × IsPrefix w.calls (met v w).calls
   both v w is = both_if v w _ (is (begins_if v w _ refl))
 
-  one_if : (v w : View E) (less : Bool) → ((met_if less v w).calls ≡ v.calls) ⊎ ((met_if less v w).calls ≡ w.calls)
+  one_if : (v w : HistoryView E) (less : Bool) → ((met_if less v w).calls ≡ v.calls) ⊎ ((met_if less v w).calls ≡ w.calls)
   one_if v w true = inr refl
   one_if v w false = inl refl
 
-  pub one_of : (v w : View E) → ((met v w).calls ≡ v.calls) ⊎ ((met v w).calls ≡ w.calls)
+  pub one_of : (v w : HistoryView E) → ((met v w).calls ≡ v.calls) ⊎ ((met v w).calls ≡ w.calls)
   one_of v w = one_if v w _

@@ -9,4 +9,4 @@ mod word;
 
 pub use history::{CallHistory, Caller, HistoryError, Keeper, OpenedHistory};
 pub use names::{Entries, HistoryName};
-pub use word::View;
+pub use word::HistoryView;

@@ -12,7 +12,7 @@ use std::collections::LinkedList;
 use std::marker::PhantomData;
 
 /// What a pass knows. No value of it is made.
-pub struct View<E> {
+pub struct HistoryView<E> {
     /// Whether it is the keeper, which knows the whole history.
     pub keeps: bool,
     /// The history, or a beginning of it.
@@ -30,7 +30,7 @@ pub struct OneHistory<E> {
     of: PhantomData<E>,
 }
 
-impl<E> TableRule<(), View<E>, ()> for OneHistory<E> {
+impl<E> TableRule<(), HistoryView<E>, ()> for OneHistory<E> {
     ghost use Rattle.call_history.specs.Rule.{IsOne, first};
 
     ghost holds = { λ _. IsOne };
@@ -38,16 +38,16 @@ impl<E> TableRule<(), View<E>, ()> for OneHistory<E> {
     ghost first = { λ _. first };
 }
 
-pub type Word<E> = Table<(), View<E>, (), OneHistory<E>, Global>;
+pub type Word<E> = Table<(), HistoryView<E>, (), OneHistory<E>, Global>;
 
-pub type Pass<E> = Seat<(), View<E>>;
+pub type Pass<E> = Seat<(), HistoryView<E>>;
 
 /// The keeper adds entries, and learns that what it was shown is a beginning of what it had.
 pub struct AddingEntries<J> {
     of: PhantomData<J>,
 }
 
-impl<E, J: Entries<E>> Play<(), View<E>> for AddingEntries<J> {
+impl<E, J: Entries<E>> Play<(), HistoryView<E>> for AddingEntries<J> {
     ghost use Rattle.call_history.specs.Rule.{Adds};
 
     ghost then = { λ _ before _ after. Adds J.added before after };
@@ -56,7 +56,7 @@ impl<E, J: Entries<E>> Play<(), View<E>> for AddingEntries<J> {
 /// A pass gives its right to call away, with what it knows.
 pub struct Giving;
 
-impl<E> Split<View<E>> for Giving {
+impl<E> Split<HistoryView<E>> for Giving {
     ghost use Rattle.call_history.specs.Rule.{caller, caller_of, without_right};
 
     ghost left = { without_right };
@@ -67,7 +67,7 @@ impl<E> Split<View<E>> for Giving {
 /// One part of the right to call goes to a new caller, which knows the same.
 pub struct Sharing;
 
-impl<E> Split<View<E>> for Sharing {
+impl<E> Split<HistoryView<E>> for Sharing {
     ghost use Rattle.call_history.specs.Callers.{new_caller};
     ghost use Rattle.call_history.specs.Rule.{caller, less_one};
 
@@ -79,7 +79,7 @@ impl<E> Split<View<E>> for Sharing {
 /// A pass is shown what another knows, and takes over its right to call.
 pub struct Showing;
 
-impl<E> Join<View<E>> for Showing {
+impl<E> Join<HistoryView<E>> for Showing {
     ghost use Rattle.call_history.specs.Rule.{shown, spent};
 
     ghost both = { shown };
@@ -90,7 +90,7 @@ impl<E> Join<View<E>> for Showing {
 /// Two callers become one, which knows the longer of what both knew.
 pub struct Meeting;
 
-impl<E> Join<View<E>> for Meeting {
+impl<E> Join<HistoryView<E>> for Meeting {
     ghost use Rattle.call_history.specs.Rule.{met, spent};
 
     ghost both = { met };
@@ -101,7 +101,7 @@ impl<E> Join<View<E>> for Meeting {
 /// A pass learns that the shorter of two beginnings begins the longer.
 pub struct Comparing;
 
-impl<E> Play<(), View<E>> for Comparing {
+impl<E> Play<(), HistoryView<E>> for Comparing {
     ghost use Rattle.call_history.specs.Rule.{Compares};
 
     ghost then = { λ _ before _ after. Compares before after };

@@ -1,5 +1,6 @@
 //! A connection, step by step.
 ghost use Rattle.std.specs.Prelude.{◌≡◌, ◌<◌, ◌≤◌, ◌^◌, ◌↔◌, ◌++◌, [], true, ℕ, List, IsTrue, MatchOption, MatchResult, max, vec_capacity, vec_len};
+ghost use Rattle.limits.specs.Limits.{most_connections};
 ghost use Rattle.mqtt_packet.specs.declared.packet.Packet.{Packet};
 ghost use Rattle.conn_supply.specs.Ready.{IsSoundSession};
 ghost use Rattle.conn_engine.specs.declared.phase.ConnPhase.TheVariants as phases;
@@ -36,19 +37,20 @@ pub struct Conn<P: HoldingPlace> {
 
 impl<P: HoldingPlace> Model for Conn<P> {
     ghost use Rattle.std.specs.Prelude.{◌<◌};
+    ghost use Rattle.limits.specs.Limits.{most_connections};
     ghost use Rattle.conn_engine.specs.Phases.{ConnState, IsSoundPhase};
 
     ghost Value = { ConnState P };
 
     ghost view = { λ c. record { number = c.number; latest = c.latest; phase = c.phase } };
 
-    ghost invariant = { λ c. (c.number < 1024) × IsSoundPhase P.has_out c.phase };
+    ghost invariant = { λ c. (c.number < most_connections) × IsSoundPhase P.has_out c.phase };
 }
 
 impl<P: HoldingPlace> Conn<P> {
     /// A connection that is opened so. Its number, below 1,024, tells it apart from the other connections of the broker.
     pub fn open(alloc: Global, number: u16, opening: Opening) -> Conn<P>
-        requires { number < 1024 }
+        requires { number < most_connections }
         ensures { result ≡ record { number = number; latest = opening.at; phase = phases.Unconnected opening } }
     {
         let at = opening.at;

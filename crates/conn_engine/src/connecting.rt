@@ -1,5 +1,6 @@
 //! The answer to a CONNECT, and to a Tick while a connection waits for a session (sections 3.1 and 3.2).
 ghost use Rattle.std.specs.Prelude.{◌≡◌, ◌<◌, ◌≤◌, ◌↔◌, ℕ, nat_lt, length, slice_get, Some, IfOk, IfSome, IsOk, IsTrue, MatchResult};
+ghost use Rattle.limits.specs.Limits.{most_connections};
 ghost use Rattle.group_jobs.specs.Stamps.{Held};
 ghost use Rattle.member_window.specs.Contents.{held_of};
 ghost use Rattle.conn_rules.specs.HandOuts.{is_message_too_long};
@@ -17,7 +18,7 @@ use conn_supply::{HoldingPlace, NoMemory, Reply, Supply};
 use group_jobs::Envelope;
 use member_window::Window;
 use mqtt_packet::{ConnectRefusal, Text};
-use session_desk::{Attached, DeskError, Expiry, Identity, Session};
+use session_desk::{Attached, DeskError, Identity, Session, SessionExpiry};
 
 /// For how many Ticks a connection waits for a session.
 const MOST_TICKS: u8 = 100;
@@ -34,7 +35,7 @@ pub(crate) fn attach<P: HoldingPlace, S: Supply<P>>(
     request: ConnectRequest,
     ticks: u8,
 ) -> (ConnPhase<P>, Result<Reply, NoMemory>)
-    requires known { number < 1024 }
+    requires known { number < most_connections }
     requires short { length request.client ≤ 128 }
     ensures answered { MatchResult result.1
         (λ reply. Attaches S.call supply.old number now request ticks result.0 reply supply.new)
@@ -68,7 +69,7 @@ pub(crate) fn try_again<P: HoldingPlace, S: Supply<P>>(
     request: ConnectRequest,
     ticks: u8,
 ) -> (ConnPhase<P>, Result<Reply, NoMemory>)
-    requires known { number < 1024 }
+    requires known { number < most_connections }
     requires short { length request.client ≤ 128 }
     requires few { ticks < 100 }
     ensures answered { MatchResult result.1
@@ -195,7 +196,7 @@ fn open<P: HoldingPlace>(mut session: Session<Envelope, P>, terms: &Terms) -> Se
     ensures sound { IsSoundSession P.has_out result }
 {
     session.window.up(terms.receive_maximum);
-    session.expiry = Expiry {
+    session.expiry = SessionExpiry {
         seconds: terms.session_expiry_interval,
         parked: None,
     };

@@ -1,5 +1,6 @@
 //! How far a connection has come.
 ghost use Rattle.std.specs.Prelude.{◌≡◌, ◌↔◌, IsTrue};
+ghost use Rattle.limits.specs.Limits.{most_unacknowledged};
 ghost use Rattle.session_desk.specs.declared.session.Membership.TheVariants.{NotMember};
 ghost use Rattle.conn_rules.specs.Connecting.{inflight_alone};
 ghost use Rattle.conn_engine.specs.declared.phase.ConnPhase.TheVariants as phases;
@@ -101,7 +102,7 @@ pub struct Opening {
 impl Opening {
     /// One at this moment in milliseconds, with the highest limit of unacknowledged messages, and no other.
     pub fn plain(at: u64) -> Opening
-        ensures { result ≡ record { at = at; limits = inflight_alone 256 } }
+        ensures { result ≡ record { at = at; limits = inflight_alone most_unacknowledged } }
     {
         Opening {
             at,

@@ -1,5 +1,6 @@
 //! What an input does to a connection, before anything is handed out.
 ghost use Rattle.std.specs.Prelude.{◌≡◌, ◌<◌, ◌≤◌, ◌↔◌, Ok, false, length, IfOk, IsOk, IsTrue, MatchResult, true};
+ghost use Rattle.limits.specs.Limits.{most_connections};
 ghost use Rattle.conn_rules.specs.Connecting.{first_answer};
 ghost use Rattle.conn_rules.specs.Packets.{disconnect};
 ghost use Rattle.conn_rules.specs.declared.connecting.FirstAnswer.TheVariants as first;
@@ -37,7 +38,7 @@ pub(crate) fn react<P: HoldingPlace, S: Supply<P>>(
     now: u64,
     input: Input,
 ) -> Result<Reply, NoMemory>
-    requires known { number < 1024 }
+    requires known { number < most_connections }
     requires sound { IsSoundPhase P.has_out phase.old }
     requires wanted { IsWanted phase.old input }
     requires visiting { NeedsVisit input → S.visiting supply.old ≡ true }
@@ -65,7 +66,7 @@ fn react_before<P: HoldingPlace, S: Supply<P>>(
     now: u64,
     input: Input,
 ) -> (ConnPhase<P>, Result<Reply, NoMemory>)
-    requires known { number < 1024 }
+    requires known { number < most_connections }
     requires sound { IsSoundPhase P.has_out phase }
     requires wanted { IsWanted phase input }
     requires before { ¬ IsConnected phase }
@@ -109,7 +110,7 @@ fn react_unconnected<P: HoldingPlace, S: Supply<P>>(
     now: u64,
     input: Input,
 ) -> (ConnPhase<P>, Result<Reply, NoMemory>)
-    requires known { number < 1024 }
+    requires known { number < most_connections }
     requires visiting { NeedsVisit input → S.visiting supply.old ≡ true }
     ensures reacted { MatchResult result.1
         (λ reply. Reacts S.call P.slot_of supply.old number (phases.Unconnected opened) now input result.0 reply supply.new)
@@ -145,7 +146,7 @@ fn answer_first<P: HoldingPlace, S: Supply<P>>(
     now: u64,
     packet: Packet,
 ) -> (ConnPhase<P>, Result<Reply, NoMemory>)
-    requires known { number < 1024 }
+    requires known { number < most_connections }
     ensures answered { MatchResult result.1
         (λ reply. AnswersFirst S.call P.slot_of (first_answer limits.users packet) supply.old number limits now packet result.0 reply supply.new)
         (λ _. (result.0 ≡ phases.Ended) × FailsFirst S.call P.slot_of supply.old number limits now packet supply.new) }
@@ -174,7 +175,7 @@ fn connect<P: HoldingPlace, S: Supply<P>>(
     now: u64,
     packet: Packet,
 ) -> (ConnPhase<P>, Result<Reply, NoMemory>)
-    requires known { number < 1024 }
+    requires known { number < most_connections }
     requires opens { first_answer limits.users packet ≡ first.Attach }
     ensures answered { MatchResult result.1
         (λ reply. AnswersFirst S.call P.slot_of first.Attach supply.old number limits now packet result.0 reply supply.new)
@@ -222,7 +223,7 @@ fn react_waiting<P: HoldingPlace, S: Supply<P>>(
     now: u64,
     input: Input,
 ) -> (ConnPhase<P>, Result<Reply, NoMemory>)
-    requires known { number < 1024 }
+    requires known { number < most_connections }
     requires short { length request.client ≤ 128 }
     requires few { ticks < 100 }
     requires wanted { IsNoPacket input }

@@ -23,7 +23,7 @@ use Rattle.conn_supply.specs.declared.reply.Reply.{Reply}
 use Rattle.conn_supply.specs.declared.supply.BindRefusal.{BindRefusal}
 use Rattle.conn_supply.specs.declared.supply.BindRefusal.TheVariants as refusal
 use Rattle.conn_supply.specs.SupplyCalls.{SupplyCall}
-use Rattle.conn_supply.specs.Subscribing.{IsLent, EntersAs, StaysAs, LeavesFrom, Joins, JoinsIf, AnswersEntry, AnswersEntries, AnswersFirst, AnswersSome, SubscribesAs, LeavesBy, LeavesByAll, UnsubscribesAs}
+use Rattle.conn_supply.specs.Subscribing.{IsLent, EntersAs, StaysAs, LeavesFrom, Joins, JoinsIf, AnswersEntry, AnswersEntries, IsUnbound, LacksMemory, AnswersFirst, AnswersSome, SubscribesAs, LeavesBy, LeavesByAll, UnsubscribesAs}
 use Rattle.conn_engine.specs.declared.phase.ConnPhase.{ConnPhase}
 use Rattle.conn_engine.specs.declared.phase.ConnPhase.TheVariants.{Unconnected, Waiting, Connected, Ended}
 use Rattle.conn_engine.specs.Connecting.{RetiresEarlier, Withdraws}
@@ -211,11 +211,22 @@ module _ {S P : Type 0} (call : S → SupplyCall P → S → Type 0) where
         behind old answers.3 new (entry_answered rights (entry_answer entry) old answers.3 membership answers.0 answers.2 answers.4)
         (entries_answered rights others answers.3 new answers.2 answers.1 membership' answers.5)
 
+    unbound : (membership : Membership P) (old new : S) (share : Share) (membership' : Membership P)
+        → IsUnbound call slot_of old membership share membership' new → Aside [] [] (place_in membership) (place_in membership') old new
+    unbound NotMember old new share membership' is = becomes (ap place_in is.1) (one old new _ is.0 tt refl refl refl refl)
+    unbound (Member place) old new share membership' is = absurd is
+    unbound (Leaving place) old new share membership' is = absurd is
+
+    lacking : (rights : Rights) (answer : EntryAnswer) (old new : S) (membership membership' : Membership P)
+        → LacksMemory call slot_of rights old membership answer membership' new → Aside [] [] (place_in membership) (place_in membership') old new
+    lacking rights (entries.Refuse code) old new membership membership' lacks = absurd lacks
+    lacking rights (entries.Join share) old new membership membership' lacks = unbound membership old new share membership' lacks.1
+
     first_answered : (rights : Rights) (subscriptions : List Subscription) (old new : S) (membership membership' : Membership P)
         → AnswersFirst call slot_of rights old membership subscriptions membership' new → Aside [] [] (place_in membership) (place_in membership') old new
     first_answered rights [] old new membership membership' answers = absurd answers
-    first_answered rights (entry ∷ others) old new membership membership' (inl unbound) =
-        becomes (ap place_in unbound.2) (beside (place_in membership) (one old new _ unbound.1 tt refl refl refl refl))
+    first_answered rights (entry ∷ others) old new membership membership' (inl lacks) =
+        lacking rights (entry_answer entry) old new membership membership' lacks
     first_answered rights (entry ∷ others) old new membership membership' (inr answers) =
         behind old answers.2 new (entry_answered rights (entry_answer entry) old answers.2 membership answers.0 answers.1 answers.3)
         (first_answered rights others answers.2 new answers.1 membership' answers.4)

@@ -18,7 +18,7 @@ use Rattle.session_desk.specs.declared.session.Session.{Session}
 use Rattle.session_desk.specs.declared.session.Membership.{Membership}
 use Rattle.session_desk.specs.declared.session.Membership.TheVariants.{NotMember, Member, Leaving}
 use Rattle.session_desk.specs.Attaching.{Request}
-use Rattle.conn_rules.specs.declared.limits.ClientLimits.{ClientLimits}
+use Rattle.conn_rules.specs.declared.client_limits.ClientLimits.{ClientLimits}
 use Rattle.users.specs.Table.{UserTable}
 use Rattle.conn_rules.specs.Connecting.{is_under, connect_answer, first_answer}
 use Rattle.conn_rules.specs.HandOuts.{is_discarded, is_message_too_long}

@@ -14,7 +14,7 @@ use Rattle.session_desk.specs.declared.session.Session.{Session}
 use Rattle.session_desk.specs.declared.session.Membership.{Membership}
 use Rattle.session_desk.specs.declared.session.Membership.TheVariants.{NotMember, Member, Leaving}
 use Rattle.mqtt_packet.specs.declared.packet.ConnectRefusal.{ConnectRefusal}
-use Rattle.conn_rules.specs.declared.limits.ClientLimits.{ClientLimits}
+use Rattle.conn_rules.specs.declared.client_limits.ClientLimits.{ClientLimits}
 use Rattle.conn_rules.specs.declared.connecting.FirstAnswer.{FirstAnswer}
 use Rattle.conn_rules.specs.declared.connecting.FirstAnswer.TheVariants as first
 use Rattle.conn_supply.specs.declared.reply.Then.{Then}

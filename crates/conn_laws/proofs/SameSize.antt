@@ -9,7 +9,7 @@ use Rattle.mqtt_fields.specs.declared.property.Property.TheVariants.{MessageExpi
 use Rattle.mqtt_wire.specs.Writing.{written, written_size, remaining_length}
 use Rattle.mqtt_fields.proofs.PropertySizeLaws.{publish_length}
 use Rattle.mqtt_wire.proofs.WritingLaws.{properties_size, publish_size, written_length}
-use Rattle.group_jobs.specs.declared.message.Expiry.{Expiry}
+use Rattle.group_jobs.specs.declared.message.MessageExpiry.{MessageExpiry}
 use Rattle.group_jobs.specs.declared.message.Message.{Message}
 use Rattle.conn_rules.specs.Expiring.{interval_left}
 use Rattle.conn_rules.specs.Packets.{job}
@@ -31,7 +31,7 @@ published now dup message subscription identifier = record {
 }
 
 -- an interval has four bytes, whatever is left of it
-interval_length : (now later : ℕ) (expiry : Option Expiry) → length (optional MessageExpiryInterval (interval_left now expiry)) ≡ length (optional MessageExpiryInterval (interval_left later expiry))
+interval_length : (now later : ℕ) (expiry : Option MessageExpiry) → length (optional MessageExpiryInterval (interval_left now expiry)) ≡ length (optional MessageExpiryInterval (interval_left later expiry))
 interval_length now later None = refl
 interval_length now later (Some expiry) = refl
 

@@ -1,5 +1,6 @@
 -- What a client asks for when it connects, and the answer to the first packet (sections 3.1 and 3.2).
 use Rattle.std.specs.Prelude.{ℕ, ◌==◌, ◌&&◌, ◌||◌, nat_lt, min, Bool, true, false, if◌then◌else◌, List, length, Option, Some, None, is_some}
+use Rattle.limits.specs.Limits.{most_bytes}
 use Rattle.mqtt_packet.specs.declared.offer.Offer.{Offer}
 use Rattle.mqtt_packet.specs.declared.packet.QoS.TheVariants.{AtLeastOnce}
 use Rattle.mqtt_packet.specs.declared.packet.Connect.{Connect}
@@ -11,7 +12,7 @@ use Rattle.users.specs.Table.{Rights, UserTable, admits}
 use Rattle.users.specs.Rights.{all_rights, may_connect_as, rights_of}
 use Rattle.conn_rules.specs.declared.connecting.FirstAnswer.{FirstAnswer}
 use Rattle.conn_rules.specs.declared.connecting.FirstAnswer.TheVariants.{Close, Refuse, Attach}
-use Rattle.conn_rules.specs.declared.limits.ClientLimits.{ClientLimits}
+use Rattle.conn_rules.specs.declared.client_limits.ClientLimits.{ClientLimits}
 use Rattle.conn_rules.specs.declared.terms.Overrides.{Overrides}
 use Rattle.conn_rules.specs.declared.terms.Terms.{Terms}
 
@@ -70,7 +71,7 @@ granted_expiry terms seconds = or_else seconds (expiry_in_place terms.max_expiry
 
 -- 3.2.2.3: what the broker offers (profile)
 abbrev pub offer : Offer
-offer = record { maximum_qos = AtLeastOnce; retain_available = false; maximum_packet_size = Some 65536; subscription_identifiers_available = true }
+offer = record { maximum_qos = AtLeastOnce; retain_available = false; maximum_packet_size = Some most_bytes; subscription_identifiers_available = true }
 
 -- 3.1.3.5 and 3.1.3.6: a user of this name has this password; a client that names no user, or no password, is none of them
 abbrev pub admits_as : UserTable → Option (List ℕ) → Option (List ℕ) → Bool

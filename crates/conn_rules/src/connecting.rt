@@ -2,8 +2,9 @@
 ghost use Rattle.std.specs.Prelude.{◌≡◌};
 ghost use Rattle.conn_rules.specs.Connecting.{client_rights, connect_answer, first_answer, is_known, is_own_identifier, offer};
 
-use crate::limits::ClientLimits;
+use crate::client_limits::ClientLimits;
 use crate::terms::is_size_under;
+use limits::MOST_BYTES;
 use mqtt_packet::{Connect, ConnectRefusal, MaximumPacketSize, Offer, Packet, QoS};
 use users::{ClientRights, SharedUsers};
 
@@ -104,7 +105,7 @@ pub fn offer() -> Offer
     Offer {
         maximum_qos: QoS::AtLeastOnce,
         retain_available: false,
-        maximum_packet_size: MaximumPacketSize::new(65_536),
+        maximum_packet_size: MaximumPacketSize::new(MOST_BYTES),
         subscription_identifiers_available: true,
     }
 }

@@ -2,14 +2,14 @@
 ghost use Rattle.std.specs.Prelude.{◌≡◌, ◌-◌, ◌/◌};
 ghost use Rattle.conn_rules.specs.Expiring.{expiry_from, waited, is_expired, interval_left};
 
-use group_jobs::Expiry;
+use group_jobs::MessageExpiry;
 
 /// When a message expires that came at this moment, in milliseconds, with this Message Expiry Interval, in seconds.
-pub(crate) fn expiry_from(now: u64, interval: Option<u32>) -> Option<Expiry>
+pub(crate) fn expiry_from(now: u64, interval: Option<u32>) -> Option<MessageExpiry>
     ensures { result ≡ expiry_from now interval }
 {
     match interval {
-        Some(seconds) => Some(Expiry {
+        Some(seconds) => Some(MessageExpiry {
             seconds,
             accepted_at: now,
         }),
@@ -19,7 +19,7 @@ pub(crate) fn expiry_from(now: u64, interval: Option<u32>) -> Option<Expiry>
 
 /// Whether a message has expired at this moment, in milliseconds: it has waited as long as it may, or longer.
 #[inline(always)]
-pub fn is_expired(now: u64, expiry: Option<Expiry>) -> bool
+pub fn is_expired(now: u64, expiry: Option<MessageExpiry>) -> bool
     ensures { result ≡ is_expired now expiry }
 {
     match expiry {
@@ -31,7 +31,7 @@ pub fn is_expired(now: u64, expiry: Option<Expiry>) -> bool
 /// The Message Expiry Interval, in seconds, with which a message goes out at this moment: what it came with less the whole seconds that it has waited,
 /// 0 where it has waited longer.
 #[inline(always)]
-pub fn interval_left(now: u64, expiry: Option<Expiry>) -> Option<u32>
+pub fn interval_left(now: u64, expiry: Option<MessageExpiry>) -> Option<u32>
     ensures { result ≡ interval_left now expiry }
 {
     match expiry {
@@ -51,7 +51,7 @@ fn seconds_left(waited: u64, seconds: u32) -> u32
 }
 
 /// How long a message has waited, in milliseconds: nothing where the clock of who asks is behind that of its publisher's connection.
-fn waited(now: u64, expiry: Expiry) -> u64
+fn waited(now: u64, expiry: MessageExpiry) -> u64
     ensures { result ≡ waited now expiry }
 {
     now.saturating_sub(expiry.accepted_at)

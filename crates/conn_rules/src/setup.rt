@@ -2,12 +2,10 @@
 ghost use Rattle.std.specs.Prelude.{◌≡◌, ◌<◌, ◌≤◌, ◌↔◌, IfSome, IsSome};
 ghost use Rattle.conn_rules.specs.Setups.{most_capacity};
 
-use crate::limits::MaxInflight;
+use crate::client_limits::MaxInflight;
+use limits::MOST_WAITING;
 use mqtt_topic::Routes;
 use std::marker::Model;
-
-/// The most messages that may wait in the queue of a group (profile).
-const MOST_CAPACITY: u32 = 65_536;
 
 /// How many messages may wait in the queue of a group: 1 to 65,536 (profile).
 #[derive(Clone, Copy, Debug, PartialEq, Eq)]
@@ -34,7 +32,7 @@ impl QueueCapacity {
         ensures value { IfSome result (λ capacity. capacity ≡ messages) }
         ensures found { IsSome result ↔ ((0 < messages) × (messages ≤ most_capacity)) }
     {
-        if messages == 0 || messages > MOST_CAPACITY {
+        if messages == 0 || messages > MOST_WAITING {
             return None;
         }
         Some(QueueCapacity { messages })

@@ -2,7 +2,7 @@
 ghost use Rattle.std.specs.Prelude.{◌≡◌};
 ghost use Rattle.conn_rules.specs.Connecting.{is_under, expiry_in_place, keep_alive_in_place, overrides_of, terms_of, is_given_expiry, granted_expiry};
 
-use crate::limits::{ClientLimits, ExpiryLimit, KeepAliveLimit};
+use crate::client_limits::{ClientLimits, ExpiryLimit, KeepAliveLimit};
 use mqtt_packet::{Connect, MaximumPacketSize};
 
 /// What the broker uses in place of what a client asked for, as the CONNACK tells it; `None` where it is as the client asked.

@@ -1,5 +1,6 @@
 -- What is handed out after the reply (sections 4.4, 4.6, 4.8.2 and 4.9).
 use Rattle.std.specs.Prelude.{◌≡◌, ◌≢◌, ◌⊎◌, ℕ, ◌+◌, ◌<◌, length, true, false, List, [], ◌∷◌, ◌++◌, Option, Some, None, Ok, Err}
+use Rattle.limits.specs.Limits.{most_unacknowledged}
 use Rattle.mqtt_packet.specs.declared.packet.Packet.{Packet}
 use Rattle.group_jobs.specs.declared.fate.Fate.TheVariants.{Discarded}
 use Rattle.group_jobs.specs.Stamps.{Held, under}
@@ -35,7 +36,7 @@ pub record KeepsHeld (old new : Contents Held) : Type 0 where
 -- one more is owed, and at most 256 are
 pub record HoldsMore (old new : Contents Held) : Type 0 where
   pub one : length new.owed ≡ length old.owed + 1
-  pub few : length old.owed < 256
+  pub few : length old.owed < most_unacknowledged
 
 -- how many messages are discarded at most where one is looked for (profile)
 abbrev pub most_discards : ℕ

@@ -60,9 +60,16 @@ module _ {S P : Type 0} (call : S → SupplyCall P → S → Type 0) (slot_of : 
   AnswersEntry rights old membership (answers.Refuse refused) code membership' new = (code ≡ refused) × (membership' ≡ membership) × (new ≡ old)
   AnswersEntry rights old membership (answers.Join share) code membership' new = JoinsIf (may_work rights share.text) old membership share code membership' new
 
-  -- a share was to be bound, and there was no memory: nothing has changed
-  abbrev pub IsUnbound : S → Membership P → Membership P → S → Type 0
-  IsUnbound old membership membership' new = (share : Share) × call old (Bind share (Err refusal.Memory)) new × (membership' ≡ membership)
+  -- who is no member was to be bound to this share's group, and there was no memory: it is no member still
+  abbrev pub IsUnbound : S → Membership P → Share → Membership P → S → Type 0
+  IsUnbound old NotMember share membership' new = call old (Bind share (Err refusal.Memory)) new × (membership' ≡ NotMember)
+  IsUnbound old (Member place) share membership' new = ⊥
+  IsUnbound old (Leaving place) share membership' new = ⊥
+
+  -- there was no memory for an entry: its own share, for which the client may work, was to be bound
+  abbrev pub LacksMemory : Rights → S → Membership P → EntryAnswer → Membership P → S → Type 0
+  LacksMemory rights old membership (answers.Refuse refused) membership' new = ⊥
+  LacksMemory rights old membership (answers.Join share) membership' new = (may_work rights share.text ≡ true) × IsUnbound old membership share membership' new
 
   -- the entries of a SUBSCRIBE, in their order: each sees what the earlier ones did
   abbrev pub AnswersEntries : Rights → S → Membership P → List Subscription → List ℕ → Membership P → S → Type 0
@@ -72,16 +79,16 @@ module _ {S P : Type 0} (call : S → SupplyCall P → S → Type 0) (slot_of : 
       × AnswersEntry rights old membership (entry_answer entry) code between mid
       × AnswersEntries rights mid between entries rest membership' new × (codes ≡ code ∷ rest)
 
-  -- some of the entries were answered, from the first on, at least one; or there was no memory for the first
+  -- the entries before one were answered, from the first on, and there was no memory for that one
   abbrev pub AnswersFirst : Rights → S → Membership P → List Subscription → Membership P → S → Type 0
   AnswersFirst rights old membership [] membership' new = ⊥
   AnswersFirst rights old membership (entry ∷ entries) membership' new =
-      IsUnbound old membership membership' new
+      LacksMemory rights old membership (entry_answer entry) membership' new
       ⊎ ((code : ℕ) × (between : Membership P) × (mid : S)
       × AnswersEntry rights old membership (entry_answer entry) code between mid
       × AnswersFirst rights mid between entries membership' new)
 
-  -- where an allocation failed, some of the entries were answered, from the first on, or none
+  -- where an allocation failed, nothing was done, or so it was
   abbrev pub AnswersSome : Rights → S → Membership P → List Subscription → Membership P → S → Type 0
   AnswersSome rights old membership entries membership' new =
       ((membership' ≡ membership) × (new ≡ old)) ⊎ AnswersFirst rights old membership entries membership' new

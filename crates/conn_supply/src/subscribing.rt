@@ -1,11 +1,11 @@
 //! The answers to a SUBSCRIBE and to an UNSUBSCRIBE (sections 3.8 to 3.11).
-ghost use Rattle.std.specs.Prelude.{◌≡◌, ◌<◌, ◌≤◌, ◌+◌, ◌++◌, ◌↔◌, List, ℕ, Option, Some, length, IsTrue, MatchResult, vec_len, vec_capacity, ◌==◌};
+ghost use Rattle.std.specs.Prelude.{◌≡◌, ◌<◌, ◌≤◌, ◌+◌, ◌++◌, ◌↔◌, List, ℕ, Option, Some, length, IsTrue, true, MatchResult, vec_len, vec_capacity, ◌==◌};
 ghost use Rattle.std.specs.List.{list_any};
 ghost use Rattle.mqtt_topic.specs.Names.{share_of};
 ghost use Rattle.users.specs.Rights.{may_work};
 ghost use Rattle.conn_supply.specs.SupplyCalls.SupplyCall.{Find};
 ghost use Rattle.conn_supply.specs.Holding.{StayOut};
-ghost use Rattle.conn_supply.specs.Subscribing.{IsLent, EntersAs, Joins, JoinsIf, AnswersEntry, AnswersEntries, AnswersFirst, AnswersSome, IsUnbound, Subscribes, subscription_after, LeavesBy, LeavesByAll, Unsubscribes};
+ghost use Rattle.conn_supply.specs.Subscribing.{IsLent, EntersAs, Joins, JoinsIf, AnswersEntry, AnswersEntries, AnswersFirst, AnswersSome, IsUnbound, LacksMemory, Subscribes, subscription_after, LeavesBy, LeavesByAll, Unsubscribes};
 ghost use Rattle.session_desk.specs.declared.session.Membership.TheVariants.{NotMember};
 ghost use Rattle.conn_rules.specs.Packets.{suback, unsuback};
 ghost use Rattle.conn_supply.specs.Replies.{going_on};
@@ -133,7 +133,7 @@ fn answer_entry<P: HoldingPlace, S: Supply<P>>(
 ) -> (Membership<P>, Result<ReasonCode, NoMemory>)
     ensures answered { MatchResult result.1
         (λ code. AnswersEntry S.call P.slot_of rights.now supply.old membership answer code result.0 supply.new)
-        (λ _. IsUnbound S.call P.slot_of supply.old membership result.0 supply.new) }
+        (λ _. LacksMemory S.call P.slot_of rights.now supply.old membership answer result.0 supply.new) }
     ensures out { StayOut P.has_out membership result.0 }
     ensures visiting { S.visiting supply.new ≡ S.visiting supply.old }
 {
@@ -152,7 +152,7 @@ fn join_if_allowed<P: HoldingPlace, S: Supply<P>>(
 ) -> (Membership<P>, Result<ReasonCode, NoMemory>)
     ensures answered { MatchResult result.1
         (λ code. JoinsIf S.call P.slot_of (may_work rights.now share.text) supply.old membership share code result.0 supply.new)
-        (λ _. IsUnbound S.call P.slot_of supply.old membership result.0 supply.new) }
+        (λ _. (may_work rights.now share.text ≡ true) × IsUnbound S.call P.slot_of supply.old membership share result.0 supply.new) }
     ensures out { StayOut P.has_out membership result.0 }
     ensures visiting { S.visiting supply.new ≡ S.visiting supply.old }
 {
@@ -172,7 +172,7 @@ fn join<P: HoldingPlace, S: Supply<P>>(
 ) -> (Membership<P>, Result<ReasonCode, NoMemory>)
     ensures joined { MatchResult result.1
         (λ code. Joins S.call P.slot_of supply.old membership share code result.0 supply.new)
-        (λ _. IsUnbound S.call P.slot_of supply.old membership result.0 supply.new) }
+        (λ _. IsUnbound S.call P.slot_of supply.old membership share result.0 supply.new) }
     ensures out { StayOut P.has_out membership result.0 }
     ensures visiting { S.visiting supply.new ≡ S.visiting supply.old }
 {
@@ -204,7 +204,7 @@ fn enter<P: HoldingPlace, S: Supply<P>>(
 ) -> (Membership<P>, Result<ReasonCode, NoMemory>)
     ensures joined { MatchResult result.1
         (λ code. Joins S.call P.slot_of supply.old NotMember share code result.0 supply.new)
-        (λ _. IsUnbound S.call P.slot_of supply.old NotMember result.0 supply.new) }
+        (λ _. IsUnbound S.call P.slot_of supply.old NotMember share result.0 supply.new) }
     ensures out { StayOut P.has_out NotMember result.0 }
     ensures visiting { S.visiting supply.new ≡ S.visiting supply.old }
 {

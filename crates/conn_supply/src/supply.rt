@@ -1,5 +1,6 @@
 //! What a connection asks: who has which session, which share is bound to which slot, and who has which message.
 ghost use Rattle.std.specs.Prelude.{◌≡◌, ◌<◌, ◌≤◌, [], List, length, IfOk, IfErr, IfSome, Bool, true, ⊤};
+ghost use Rattle.limits.specs.Limits.{most_connections};
 ghost use Rattle.conn_supply.specs.SupplyCalls.{SupplyCall};
 ghost use Rattle.conn_supply.specs.SupplyCalls.SupplyCall.{Attach, Withdraw, Kicked, Park, ParkAsIs, Keep, Bury, Sweep, LendPlace, TakePlace, Bind, Find, Match, Offer, MayTake, Take, TakeBack, Settle, GiveBack};
 ghost use Rattle.conn_supply.specs.Holding.{IsAmong, IsOutAtPlace, FindsOut, SpendsOut, ReturnsOut};
@@ -128,7 +129,7 @@ pub trait Supply<P: HoldingPlace> {
         clean: bool,
         now: u64,
     ) -> Result<Attached<Envelope, P>, DeskError>
-        requires known { connection < 1024 }
+        requires known { connection < most_connections }
         requires short { length client.now ≤ 128 }
         ensures ready { IfOk result (IsReady P.has_out) }
         ensures called { call self.old (Attach (asked connection client.now clean now) result) self.new }

@@ -1,5 +1,6 @@
 -- What holds of a group in every state that a run leads to (OASIS MQTT 5.0, 4.6 and 4.8.2).
 use Rattle.std.specs.Prelude.{◌≡◌, ◌≢◌, ℕ, ◌<◌, ◌≤◌, ◌↔◌, List, ◌∷◌, ◌++◌, Some, IsSome, Contains, AllPairs}
+use Rattle.limits.specs.Limits.{most_members}
 use Rattle.dispatch_core.specs.declared.event.Job.{Job}
 use Rattle.dispatch_core.specs.declared.event.Spot.TheVariants.{Queued}
 use Rattle.dispatch_core.specs.GroupState.{GroupState, spot_of, accepted_of, firsts_of}
@@ -19,7 +20,7 @@ pub record StandsOnce (jobs : List Job) (job : Job) : Type 0 where
 -- the job was handed out for the first time to one member, once, and to no other
 pub record HasOneFirst (state : GroupState) (job : Job) : Type 0 where
   pub member : ℕ
-  pub is_member : member < 32
+  pub is_member : member < most_members
   pub once : StandsOnce (firsts_of state member) job
   pub no_other : (other : ℕ) → other ≢ member → ¬ Contains (firsts_of state other) job
 

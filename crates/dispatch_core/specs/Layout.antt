@@ -1,5 +1,6 @@
 -- How a state keeps its rows and lists. No public clause cites this module.
 use Rattle.std.specs.Prelude.{◌≡◌, ℕ, Bool, List, [], length, slice_index_or}
+use Rattle.limits.specs.Limits.{most_members, most_ports}
 use Rattle.dispatch_core.specs.declared.event.Job.{Job}
 use Rattle.dispatch_core.specs.declared.event.Spot.{Spot}
 use Rattle.dispatch_core.specs.GroupState.{GroupState}
@@ -10,8 +11,8 @@ state_of rows firsts closed = record { rows = rows; firsts = firsts; closed = cl
 
 -- there is a row for each port and a list for each member
 pub record IsKept (rows : List (List Spot)) (firsts : List (List Job)) (closed : Bool) : Type 0 where
-  pub ports : length rows ≡ 64
-  pub members : length firsts ≡ 32
+  pub ports : length rows ≡ most_ports
+  pub members : length firsts ≡ most_members
   pub lawful : IsLawful (state_of rows firsts closed)
 
 -- so many lists, each of them empty

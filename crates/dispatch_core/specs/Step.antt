@@ -1,5 +1,6 @@
 -- The steps of a group (OASIS MQTT 5.0, 4.6 and 4.8.2): when an event may happen, and what it changes.
 use Rattle.std.specs.Prelude.{◌≡◌, ◌≢◌, ℕ, ◌<◌, true, false, [], ◌∷◌, ◌++◌, Some}
+use Rattle.limits.specs.Limits.{most_members, most_ports}
 use Rattle.dispatch_core.specs.declared.event.Job.{Job}
 use Rattle.dispatch_core.specs.declared.event.Event.{Event}
 use Rattle.dispatch_core.specs.declared.event.Event.TheVariants.{Accept, First, Ack, Refuse, Discard, Back, Again, Close}
@@ -9,10 +10,10 @@ use Rattle.dispatch_core.specs.GroupState.{GroupState, spot_of, accepted_of, fir
 
 -- the ports are 0 to 63 and the members 0 to 31 (profile)
 abbrev pub AreInRange : ℕ → Job → Type 0
-AreInRange member job = (member < 32) × (job.port < 64)
+AreInRange member job = (member < most_members) × (job.port < most_ports)
 
 abbrev pub IsInRange : Event → Type 0
-IsInRange (Accept port) = port < 64
+IsInRange (Accept port) = port < most_ports
 IsInRange (First member job) = AreInRange member job
 IsInRange (Ack member job) = AreInRange member job
 IsInRange (Refuse member job) = AreInRange member job

@@ -3,11 +3,7 @@ ghost use Rattle.std.specs.Prelude.{◌≡◌, ◌↔◌, IsTrue};
 ghost use Rattle.dispatch_core.specs.Step.{IsInRange, NeedsOpen};
 ghost use Rattle.dispatch_core.specs.Mentions.{named_job, named_member};
 
-/// How many ports a group has: they are numbered from 0 to 63 (profile).
-pub const PORTS: u8 = 64;
-
-/// How many members a group has: they are numbered from 0 to 31 (profile).
-pub const MEMBERS: u8 = 32;
+use limits::{MOST_MEMBERS, MOST_PORTS};
 
 /// A message that a group accepted: the port that it came through, and its number there. A port's
 /// numbers go up from 0, without a gap.
@@ -95,13 +91,13 @@ impl Event {
         ensures { IsTrue result ↔ IsInRange self }
     {
         match self {
-            Event::Accept { port } => port < PORTS,
+            Event::Accept { port } => port < MOST_PORTS,
             Event::First { member, job }
             | Event::Ack { member, job }
             | Event::Refuse { member, job }
             | Event::Discard { member, job }
             | Event::Back { member, job }
-            | Event::Again { member, job } => member < MEMBERS && job.port < PORTS,
+            | Event::Again { member, job } => member < MOST_MEMBERS && job.port < MOST_PORTS,
             Event::Close => true,
         }
     }

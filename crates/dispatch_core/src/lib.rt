@@ -47,7 +47,7 @@ mod tiers;
 mod walks;
 
 pub use error::{ReplayError, RoomError, StepError, Why};
-pub use event::{Event, Job, MEMBERS, PORTS, Spot};
+pub use event::{Event, Job, Spot};
 pub use history::replay;
 pub use runs::{Run, Runs};
 pub use state::State;

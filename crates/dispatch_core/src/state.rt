@@ -1,5 +1,6 @@
 //! Where a group stands, and one step of it.
 ghost use Rattle.std.specs.Prelude.{◌≡◌, ◌≢◌, ◌<◌, IsSome, OnOk, OnErr, IfOk, IfErr};
+ghost use Rattle.limits.specs.Limits.{most_members, most_ports};
 ghost use Rattle.dispatch_core.specs.GroupState.{IsEmpty, spot_of, firsts_of, accepted_of};
 ghost use Rattle.dispatch_core.specs.Step.{Step, MayHappen, Moves, KeepsFirsts, KeepsMark};
 ghost use Rattle.dispatch_core.specs.Reasons.{IsRefused, IsStuck};
@@ -7,9 +8,10 @@ ghost use Rattle.dispatch_core.specs.Lawful.{IsLawful};
 ghost use Rattle.dispatch_core.specs.Layout.{AreEmpty};
 
 use crate::error::{RoomError, StepError, Why};
-use crate::event::{Event, Job, MEMBERS, PORTS, Spot};
+use crate::event::{Event, Job, Spot};
 use crate::member::Member;
 use crate::port::Port;
+use limits::{MOST_MEMBERS, MOST_PORTS};
 use std::alloc::{AllocError, Global};
 use std::marker::Model;
 
@@ -144,7 +146,7 @@ impl State {
 
     /// A job that was handed out comes to another such spot.
     fn put(&mut self, job: Job, spot: Spot)
-        requires in_range { job.port < 64 }
+        requires in_range { job.port < most_ports }
         requires accepted { IsSome (spot_of self.old job) }
         requires was { spot_of self.old job ≢ Some Spot.Queued }
         requires is { spot ≢ Spot.Queued }
@@ -190,10 +192,10 @@ impl State {
 
 /// The rows of 64 ports that accepted nothing.
 fn empty_ports(alloc: Global) -> Result<Vec<Port>, AllocError>
-    ensures { IfOk result (λ ports. AreEmpty ports.items 64) }
+    ensures { IfOk result (λ ports. AreEmpty ports.items most_ports) }
 {
-    let mut ports = Vec::with_capacity(alloc, usize::from(PORTS))?;
-    for _port in 0..PORTS {
+    let mut ports = Vec::with_capacity(alloc, usize::from(MOST_PORTS))?;
+    for _port in 0..MOST_PORTS {
         ports.push(Port::new(alloc))?;
     }
     Ok(ports)
@@ -201,10 +203,10 @@ fn empty_ports(alloc: Global) -> Result<Vec<Port>, AllocError>
 
 /// The lists of 32 members that were handed nothing.
 fn empty_members(alloc: Global) -> Result<Vec<Member>, AllocError>
-    ensures { IfOk result (λ members. AreEmpty members.items 32) }
+    ensures { IfOk result (λ members. AreEmpty members.items most_members) }
 {
-    let mut members = Vec::with_capacity(alloc, usize::from(MEMBERS))?;
-    for _member in 0..MEMBERS {
+    let mut members = Vec::with_capacity(alloc, usize::from(MOST_MEMBERS))?;
+    for _member in 0..MOST_MEMBERS {
         members.push(Member::new(alloc))?;
     }
     Ok(members)

@@ -5,7 +5,7 @@ use Rattle.std.proofs.lemmas.List.{append-nil}
 use mathlib.Core.Option.{some}
 use lib.ListN.{get_elem?}
 use Rattle.atomic_table.proofs.Lists.{set_again}
-use Rattle.gate_word.specs.declared.step.View.{View}
+use Rattle.gate_word.specs.declared.step.GateView.{GateView}
 use Rattle.gate_word.specs.Steps.{is_shut}
 use Rattle.gate_word.specs.Seats.{adds, all_seats, token}
 use Rattle.gate_word.specs.GateLaw.{GateLaw}
@@ -19,10 +19,10 @@ use Rattle.gate_word.proofs.Keeps.{bit-add, bit-sub, bit-shut, shut_again, has_t
 use Rattle.gate_word.proofs.Grows.{opens, keeps_cut, keeps_token}
 
 -- no new view
-alone : (seats word : ℕ) (views : List View) → GateLaw seats word views → GateLaw seats word (views ++ [])
+alone : (seats word : ℕ) (views : List GateView) → GateLaw seats word views → GateLaw seats word (views ++ [])
 alone seats word views law = subst (GateLaw seats word) (sym (append-nil views)) law
 
-module _ (seats word : ℕ) (views : List View) (place : ℕ) (v : View) (law : GateLaw seats word views) (at : get_elem? views place ≡ some v) where
+module _ (seats word : ℕ) (views : List GateView) (place : ℕ) (v : GateView) (law : GateLaw seats word views) (at : get_elem? views place ≡ some v) where
   pub keeps_kind : (kind : Kind) → May kind word v → GateLaw seats (word_after kind word) (views_after kind word views place v)
   keeps_kind Cut may = keeps_cut seats word views place v law at may.1 may.0
   keeps_kind Enter may = alone _ _ _ (keeps_enter seats word views place v law at may.1 may.0 may.2)
@@ -33,7 +33,7 @@ module _ (seats word : ℕ) (views : List View) (place : ℕ) (v : View) (law : 
   keeps_kind LookDrained may = alone _ _ _ (keeps_look seats word views place v law at)
   keeps_kind Look may = alone _ _ _ (keeps_look seats word views place v law at)
   keeps_kind Witness may =
-      subst (λ (same : List View). GateLaw seats word (same ++ token v.seats ∷ [])) (sym (set_again views place v at)) (keeps_token seats word views place v law at may)
+      subst (λ (same : List GateView). GateLaw seats word (same ++ token v.seats ∷ [])) (sym (set_again views place v at)) (keeps_token seats word views place v law at may)
 
   -- no step opens a shut gate
   pub stays_shut : (kind : Kind) → May kind word v → is_shut word ≡ true → is_shut (word_after kind word) ≡ true
@@ -47,7 +47,7 @@ module _ (seats word : ℕ) (views : List View) (place : ℕ) (v : View) (law : 
   stays_shut Look may shut = shut
   stays_shut Witness may shut = shut
 
-pub schedule_keeps : (seats word : ℕ) (views : List View) → Reaches seats word views → GateLaw seats word views
+pub schedule_keeps : (seats word : ℕ) (views : List GateView) → Reaches seats word views → GateLaw seats word views
 schedule_keeps seats word views (opened few) = opens seats few
 schedule_keeps seats word views (made kind place v before at may) = keeps_kind seats _ _ place v (schedule_keeps seats _ _ before) at kind may
 

@@ -6,18 +6,18 @@ use Rattle.std.proofs.lemmas.List.Elements.{All-set, All-append, All-nil, All-co
 use Rattle.std.proofs.lemmas.List.Sums.{sum_by_push}
 use mathlib.Core.Option.{some}
 use lib.ListN.{get_elem?}
-use Rattle.gate_word.specs.declared.step.View.{View}
+use Rattle.gate_word.specs.declared.step.GateView.{GateView}
 use Rattle.gate_word.specs.Steps.{seat_state, saw_drained}
 use Rattle.gate_word.specs.Steps.SeatState.{Outside, Inside}
 use Rattle.gate_word.specs.Seats.{adds, away, has_number, all_seats, cut_seat, rest_after_cut, token}
 use Rattle.gate_word.specs.GateLaw.{GateLaw, IsNotInside, NobodyIsInside, KnowsShut, HasShut, IsSeatIfAway, KnowsDrained}
 use Rattle.gate_word.proofs.Places.{all_at, any_at, any_front, sum_at}
 
-all_push : (P : View → Type 0) (views : List View) (u : View) → All P views → P u → All P (views ++ u ∷ [])
+all_push : (P : GateView → Type 0) (views : List GateView) (u : GateView) → All P views → P u → All P (views ++ u ∷ [])
 all_push P views u all this = All-append P views (u ∷ []) all (All-cons P u [] this (All-nil P))
 
 -- a view comes that is no seat's, and knows no more than the law says
-keeps_push : (seats word : ℕ) (views : List View) (u : View) → GateLaw seats word views
+keeps_push : (seats word : ℕ) (views : List GateView) (u : GateView) → GateLaw seats word views
     → u.seats ≡ seats → away u ≡ 0 → ((number : ℕ) → has_number number u ≡ 0) → KnowsShut word u → KnowsDrained word views u → IsNotInside u
     → GateLaw seats word (views ++ u ∷ [])
 keeps_push seats word views u law same outside no_number shut drained not_inside =
@@ -38,7 +38,7 @@ keeps_push seats word views u law same outside no_number shut drained not_inside
 no_number : (number seats : ℕ) → has_number number (token seats) ≡ 0
 no_number number seats = grind (arith, nat_tests)
 
-pub keeps_token : (seats word : ℕ) (views : List View) (place : ℕ) (v : View) → GateLaw seats word views → get_elem? views place ≡ some v
+pub keeps_token : (seats word : ℕ) (views : List GateView) (place : ℕ) (v : GateView) → GateLaw seats word views → get_elem? views place ≡ some v
     → saw_drained v.steps ≡ true → GateLaw seats word (views ++ token v.seats ∷ [])
 keeps_token seats word views place v law at saw =
     let known = all_at (KnowsDrained word views) views place v at law.drained saw in
@@ -46,7 +46,7 @@ keeps_token seats word views place v law at saw =
     keeps_push seats word views (token v.seats) law same refl (λ number. no_number number v.seats) (λ _. known.0) (λ _. known) (λ inside. absurd (cc))
 
 -- the numbers of a seat that is cut off and of what is left are those that there were
-cut_numbers : (number : ℕ) (v : View) → 2 ≤ v.count → has_number number (rest_after_cut v) + has_number number (cut_seat v) ≡ has_number number v
+cut_numbers : (number : ℕ) (v : GateView) → 2 ≤ v.count → has_number number (rest_after_cut v) + has_number number (cut_seat v) ≡ has_number number v
 cut_numbers number v two = numbers number v.first v.count two
   where
     numbers : (k first count : ℕ) → 2 ≤ count
@@ -54,7 +54,7 @@ cut_numbers number v two = numbers number v.first v.count two
         ≡ (if nat_le first k && nat_lt k (first + count) then 1 else 0)
     numbers k first count two = grind (arith, nat_tests)
 
-pub keeps_cut : (seats word : ℕ) (views : List View) (place : ℕ) (v : View) → GateLaw seats word views → get_elem? views place ≡ some v
+pub keeps_cut : (seats word : ℕ) (views : List GateView) (place : ℕ) (v : GateView) → GateLaw seats word views → get_elem? views place ≡ some v
     → 2 ≤ v.count → seat_state v.steps ≡ Outside → GateLaw seats word (set views place (rest_after_cut v) ++ cut_seat v ∷ [])
 keeps_cut seats word views place v law at two outside =
     let w = rest_after_cut v in
@@ -90,7 +90,7 @@ keeps_cut seats word views place v law at two outside =
 pub opens : (count : ℕ) → count ≤ 80 → GateLaw count 0 (all_seats count ∷ [])
 opens count most =
     let v = all_seats count in
-    let none : (P : View → Type 0) → P v → All P (v ∷ []) = λ P this. All-cons P v [] this (All-nil P) in
+    let none : (P : GateView → Type 0) → P v → All P (v ∷ []) = λ P this. All-cons P v [] this (All-nil P) in
     record {
       few = most;
       counted = refl;

@@ -8,9 +8,9 @@ use Rattle.std.proofs.lemmas.List.Quantifiers.{any-set}
 use Rattle.std.proofs.lemmas.List.Elements.{All-set}
 use mathlib.Core.Option.{some}
 use lib.ListN.{get_elem?}
-use Rattle.gate_word.specs.declared.step.View.{View}
-use Rattle.gate_word.specs.declared.step.Step.{Step}
-use Rattle.gate_word.specs.declared.step.Step.TheVariants.{Entered, Bounced, TakenOff, Left, Shut, Looked}
+use Rattle.gate_word.specs.declared.step.GateView.{GateView}
+use Rattle.gate_word.specs.declared.step.GateStep.{GateStep}
+use Rattle.gate_word.specs.declared.step.GateStep.TheVariants.{Entered, Bounced, TakenOff, Left, Shut, Looked}
 use Rattle.gate_word.specs.Steps.{shut_bit, is_shut, seat_state, is_shutting, has_shut, found_shut, knows_shut, saw_drained}
 use Rattle.gate_word.specs.Steps.SeatState.{Outside, Inside, Bouncing}
 use Rattle.gate_word.specs.Seats.{stepped, adds, away, has_number}
@@ -41,8 +41,8 @@ knows_more true found before mark known = known refl
 knows_more false true before mark known = refl
 knows_more false false before mark known = known mark
 
-module _ (seats word : ℕ) (views : List View) (place : ℕ) (v : View) (law : GateLaw seats word views) (at : get_elem? views place ≡ some v) where
-  keeps_set : (next : ℕ) (step : Step)
+module _ (seats word : ℕ) (views : List GateView) (place : ℕ) (v : GateView) (law : GateLaw seats word views) (at : get_elem? views place ≡ some v) where
+  keeps_set : (next : ℕ) (step : GateStep)
       → next + 2 * away v + shut_bit word ≡ word + 2 * away (stepped step v) + shut_bit next
       → (away (stepped step v) ≡ 1 → v.count ≡ 1)
       → (is_shut word ≡ true → is_shut next ≡ true)
@@ -83,7 +83,7 @@ module _ (seats word : ℕ) (views : List View) (place : ℕ) (v : View) (law : 
   seat_at = all_at IsSeatIfAway views place v at law.seated
 
   -- 2 more, by a seat that was outside
-  adds_two : (step : Step) → v.count ≡ 1 → away v ≡ 0 → away (stepped step v) ≡ 1
+  adds_two : (step : GateStep) → v.count ≡ 1 → away v ≡ 0 → away (stepped step v) ≡ 1
       → (knows_shut (step ∷ v.steps) ≡ true → is_shut word ≡ true)
       → (saw_drained (step ∷ v.steps) ≡ true → saw_drained v.steps ≡ true)
       → (is_shut word ≡ true → IsNotInside (stepped step v))
@@ -107,7 +107,7 @@ module _ (seats word : ℕ) (views : List View) (place : ℕ) (v : View) (law : 
       omega arith
 
   -- 2 less, by a seat that was not outside
-  takes_two : (step : Step) → away v ≡ 1 → seat_state (step ∷ v.steps) ≡ Outside
+  takes_two : (step : GateStep) → away v ≡ 1 → seat_state (step ∷ v.steps) ≡ Outside
       → (knows_shut (step ∷ v.steps) ≡ true → is_shut word ≡ true)
       → (saw_drained (step ∷ v.steps) ≡ true → saw_drained v.steps ≡ true)
       → GateLaw seats (word - 2) (set views place (stepped step v))

@@ -3,8 +3,8 @@ use Rattle.std.proofs.Common.{◌≡◌, ℕ, Bool, true, ◌||◌, true≢false
 use Rattle.std.specs.Prelude.{◌==◌}
 use Rattle.std.specs.List.{list_any}
 use Rattle.std.proofs.Math.Bool.{or-true}
-use Rattle.gate_word.specs.declared.step.Step.{Step}
-use Rattle.gate_word.specs.declared.step.Step.TheVariants.{Entered, Bounced, TakenOff, Left, Shut, Looked}
+use Rattle.gate_word.specs.declared.step.GateStep.{GateStep}
+use Rattle.gate_word.specs.declared.step.GateStep.TheVariants.{Entered, Bounced, TakenOff, Left, Shut, Looked}
 use Rattle.gate_word.specs.Steps.{has_shut, found_shut, knows_shut, saw_drained}
 use Rattle.gate_word.specs.Seats.{Seat, view_of}
 use Rattle.gate_word.specs.Kinds.{Kind, view_after}
@@ -27,7 +27,7 @@ drained_mark old new made =
     ap saw_drained (steps_are LookDrained old new made) ∙ ap (λ (n : ℕ). (n == 1) || saw_drained old.steps) made.2.0
 
 -- a mark that some step left stays, whatever step comes after it
-any_stays : (mark : Step → Bool) (kind : Kind) (found : ℕ) (old : Seat) → list_any mark old.steps ≡ true → list_any mark (view_after kind found (view_of old)).steps ≡ true
+any_stays : (mark : GateStep → Bool) (kind : Kind) (found : ℕ) (old : Seat) → list_any mark old.steps ≡ true → list_any mark (view_after kind found (view_of old)).steps ≡ true
 any_stays mark Cut found old marked = marked
 any_stays mark Enter found old marked = ap (λ (b : Bool). mark (Entered found) || b) marked ∙ or-true (mark (Entered found))
 any_stays mark Bounce found old marked = ap (λ (b : Bool). mark (Bounced found) || b) marked ∙ or-true (mark (Bounced found))
@@ -38,7 +38,7 @@ any_stays mark LookDrained found old marked = ap (λ (b : Bool). mark (Looked fo
 any_stays mark Look found old marked = ap (λ (b : Bool). mark (Looked found) || b) marked ∙ or-true (mark (Looked found))
 any_stays mark Witness found old marked = marked
 
-pub mark_stays : (mark : Step → Bool) (kind : Kind) (old new : Seat) → Makes kind old new → list_any mark old.steps ≡ true → list_any mark new.steps ≡ true
+pub mark_stays : (mark : GateStep → Bool) (kind : Kind) (old new : Seat) → Makes kind old new → list_any mark old.steps ≡ true → list_any mark new.steps ≡ true
 mark_stays mark kind old new made marked = ap (list_any mark) (steps_are kind old new made) ∙ any_stays mark kind made.0 old marked
 
 pub kept_out : (old new : Seat) → knows_shut old.steps ≡ true → ¬ Makes Enter old new

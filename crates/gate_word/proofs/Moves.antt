@@ -9,7 +9,7 @@ use mathlib.Core.Option.{some}
 use lib.ListN.{get_elem?}
 use Rattle.atomic_table.specs.Table.{State, Me, keeps, Allows, Splits, Joins}
 use Rattle.atomic_table.proofs.Lists.{at_set}
-use Rattle.gate_word.specs.declared.step.View.{View}
+use Rattle.gate_word.specs.declared.step.GateView.{GateView}
 use Rattle.gate_word.specs.Steps.{shut_bit, is_shut, seat_state, knows_shut, saw_drained}
 use Rattle.gate_word.specs.Steps.SeatState.{Outside, Inside, Bouncing}
 use Rattle.gate_word.specs.Seats.{adds, cut_seat, rest_after_cut, token}
@@ -25,14 +25,14 @@ use Rattle.gate_word.proofs.Keeps.{has_two}
 use Rattle.gate_word.proofs.EachKind.{schedule_keeps}
 
 abbrev Known : Type 0
-Known = Me (Unit {0}) View
+Known = Me (Unit {0}) GateView
 
 abbrev At : Type 0
-At = State (Unit {0}) View
+At = State (Unit {0}) GateView
 
 -- what the machine makes of the word is what a step of this kind makes of it, and the seat may make that step
-abbrev IsStep : ℕ → View → (ℕ → ℕ) → (ℕ → Kind) → Type 0
-IsStep place v f kind = (seats word : ℕ) (views : List View) → GateLaw seats word views → get_elem? views place ≡ some v
+abbrev IsStep : ℕ → GateView → (ℕ → ℕ) → (ℕ → Kind) → Type 0
+IsStep place v f kind = (seats word : ℕ) (views : List GateView) → GateLaw seats word views → get_elem? views place ≡ some v
     → May (kind word) word v × (f word ≡ word_after (kind word) word) × (new_views (kind word) v ≡ [])
 
 steps : (seats slots place : ℕ) (me : Known) (f : ℕ → ℕ) (kind : ℕ → Kind) → IsStep place me.0 f kind → Allows (HasPast seats) slots place me 0 f (Tells kind me)
@@ -46,7 +46,7 @@ steps seats slots place me f kind is_step s past _ at _ =
     let own : Reaches me.0.seats word s.views = subst (λ (n : ℕ). Reaches n word s.views) (sym total) reached in
     let w = view_after (kind word) word me.0 in
     let alone : set s.views place w ++ new_views (kind word) me.0 ≡ set s.views place w =
-    ap (λ (new : List View). set s.views place w ++ new) is.2 ∙ append-nil (set s.views place w) in
+    ap (λ (new : List GateView). set s.views place w ++ new) is.2 ∙ append-nil (set s.views place w) in
     let goes_on : Reaches seats (f word) (set s.views place w) =
     subst (λ (n : ℕ). Reaches seats n (set s.views place w)) (sym is.1) (subst (Reaches seats (word_after (kind word) word)) alone (made (kind word) place me.0 reached at is.0)) in (
       w,
@@ -99,30 +99,30 @@ looks seats slots place me one = steps seats slots place me (λ n. n) look (λ s
     goes word true is = ((eqb-true word 1 is, one), refl, refl)
     goes word false is = ((eqb-false word 1 is, one), refl, refl)
 
-pub cuts : (seats place : ℕ) (v : View) → 2 ≤ v.count → seat_state v.steps ≡ Outside → Splits (HasPast seats) place v (rest_after_cut v) (cut_seat v)
+pub cuts : (seats place : ℕ) (v : GateView) → 2 ≤ v.count → seat_state v.steps ≡ Outside → Splits (HasPast seats) place v (rest_after_cut v) (cut_seat v)
 cuts seats place v two outside s past at = (past.0, past.1, made Cut place v past.2 at (outside, two))
 
-pub witnesses : (seats place : ℕ) (v : View) → saw_drained v.steps ≡ true → Splits (HasPast seats) place v v (token v.seats)
+pub witnesses : (seats place : ℕ) (v : GateView) → saw_drained v.steps ≡ true → Splits (HasPast seats) place v v (token v.seats)
 witnesses seats place v saw s past at = (past.0, past.1, made Witness place v past.2 at saw)
 
 -- who saw the gate drained, and who is inside, are never both there
-excluded : (seats word : ℕ) (views : List View) (one other : ℕ) (inside drained : View) → GateLaw seats word views
+excluded : (seats word : ℕ) (views : List GateView) (one other : ℕ) (inside drained : GateView) → GateLaw seats word views
     → get_elem? views one ≡ some inside → seat_state inside.steps ≡ Inside → get_elem? views other ≡ some drained → saw_drained drained.steps ≡ true → ⊥
 excluded seats word views one other inside drained law at is there saw =
     all_at IsNotInside views one inside at (all_at (KnowsDrained word views) views other drained there law.drained saw).1 is
 
-pub clashes : (seats place other : ℕ) (v w : View) → seat_state v.steps ≡ Inside → saw_drained w.steps ≡ true
+pub clashes : (seats place other : ℕ) (v w : GateView) → seat_state v.steps ≡ Inside → saw_drained w.steps ≡ true
     → Joins (HasPast seats) place v other w (clash v w) (token 0)
 clashes seats place other v w inside saw s past at apart there =
     let before : get_elem? s.views other ≡ some w = ⊎_elim (λ (t : (other ≡ place) × (clash v w ≡ w)). absurd (apart t.0)) (λ t. t.1) (at_set s.views place other (clash v w) w there) in
     absurd (excluded seats past.0 s.views place other v w (schedule_keeps seats past.0 s.views past.2) at inside before saw)
 
-pub never : (seats slots place : ℕ) (me : Known) (v w : View) (f : ℕ → ℕ) (told : ℕ → Known → Type 0) → seat_state v.steps ≡ Inside → me.0 ≡ clash v w
+pub never : (seats slots place : ℕ) (me : Known) (v w : GateView) (f : ℕ → ℕ) (told : ℕ → Known → Type 0) → seat_state v.steps ≡ Inside → me.0 ≡ clash v w
     → Allows (HasPast seats) slots place me 0 f told
 never seats slots place me v w f told inside is s past _ at _ =
     let here : get_elem? s.views place ≡ some (clash v w) = at ∙ ap some is in
     absurd (excluded seats past.0 s.views place place (clash v w) (clash v w) (schedule_keeps seats past.0 s.views past.2) here inside here refl)
 
 -- a seat that knows that the gate is shut finds it shut
-pub finds_shut : (found : ℕ) (v : View) → Moment found v → knows_shut v.steps ≡ true → is_shut found ≡ true
+pub finds_shut : (found : ℕ) (v : GateView) → Moment found v → knows_shut v.steps ≡ true → is_shut found ≡ true
 finds_shut found v moment = all_at (KnowsShut found) moment.0 moment.1 v moment.3 (schedule_keeps v.seats found moment.0 moment.2).shut

@@ -5,7 +5,7 @@ use Rattle.std.proofs.lemmas.Bool.{cases_lt}
 use Rattle.std.proofs.lemmas.Bool.Decides.{nat_tests}
 use Rattle.std.proofs.lemmas.List.Elements.{All-head, All-tail}
 use Rattle.std.proofs.lemmas.List.Sums.{sum_by-cons, get_or-le-sum_by}
-use Rattle.gate_word.specs.declared.step.View.{View}
+use Rattle.gate_word.specs.declared.step.GateView.{GateView}
 use Rattle.gate_word.specs.Steps.{shut_bit, SeatState, seat_state}
 use Rattle.gate_word.specs.Steps.SeatState.{Outside, Inside, Bouncing}
 use Rattle.gate_word.specs.Seats.{adds, away, has_number}
@@ -35,7 +35,7 @@ below_add zero f g h sums = omega arith
 below_add (suc n) f g h sums = let less = below_add n f g h sums in let here = sums n in omega arith
 
 -- a number of a view is below that of the seats
-first_below : (seats word : ℕ) (views : List View) → GateLaw seats word views → (k : ℕ) (d : View) → k < length views → 1 ≤ (get_or views k d).count → (get_or views k d).first < seats
+first_below : (seats word : ℕ) (views : List GateView) → GateLaw seats word views → (k : ℕ) (d : GateView) → k < length views → 1 ≤ (get_or views k d).count → (get_or views k d).first < seats
 first_below seats word views law k d lt some_seat =
     let v = get_or views k d in
     let has : has_number v.first v ≡ 1 = grind (arith, nat_tests) in
@@ -54,7 +54,7 @@ counts Inside count one = let is = one refl in omega arith
 counts Bouncing count one = let is = one refl in omega arith
 
 -- each view that is not outside has a number of its own among those below n
-away_below : (n : ℕ) (views : List View) → All IsSeatIfAway views → All (λ v. 1 ≤ v.count → v.first < n) views
+away_below : (n : ℕ) (views : List GateView) → All IsSeatIfAway views → All (λ v. 1 ≤ v.count → v.first < n) views
     → sum_by away views ≤ below n (λ k. sum_by (has_number k) views)
 away_below n [] seated small = omega arith
 away_below n (v ∷ vs) seated small =
@@ -73,7 +73,7 @@ away_below n (v ∷ vs) seated small =
     omega (arith, sum_by-cons away v vs)
 
 -- so the word is at most 161, and adding 2 doesn't wrap
-pub small : (seats word : ℕ) (views : List View) → GateLaw seats word views → word < 162
+pub small : (seats word : ℕ) (views : List GateView) → GateLaw seats word views → word < 162
 small seats word views law =
     let bit : shut_bit word < 2 = omega arith in
     let less = away_below seats views law.seated (first_below seats word views law) in

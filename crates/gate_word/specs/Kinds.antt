@@ -1,7 +1,7 @@
 -- The kinds of atomic step that a seat makes on the gate's word.
 use Rattle.std.specs.Prelude.{◌≡◌, ℕ, ◌+◌, ◌-◌, ◌≤◌, ◌≢◌, true, false, List, [], ◌∷◌, ◌++◌, slice_set}
-use Rattle.gate_word.specs.declared.step.View.{View}
-use Rattle.gate_word.specs.declared.step.Step.TheVariants.{Entered, Bounced, TakenOff, Left, Shut, Looked}
+use Rattle.gate_word.specs.declared.step.GateView.{GateView}
+use Rattle.gate_word.specs.declared.step.GateStep.TheVariants.{Entered, Bounced, TakenOff, Left, Shut, Looked}
 use Rattle.gate_word.specs.Steps.{shut_bit, is_shut, seat_state, saw_drained}
 use Rattle.gate_word.specs.Steps.SeatState.{Outside, Inside, Bouncing}
 use Rattle.gate_word.specs.Seats.{stepped, cut_seat, rest_after_cut, token}
@@ -22,7 +22,7 @@ pub data Kind : Type 0 where
   Witness : Kind
 
 -- where the word is this number, the holder of the view v may make the step: but for the cutting and the token, one seat
-abbrev pub May : Kind → ℕ → View → Type 0
+abbrev pub May : Kind → ℕ → GateView → Type 0
 May Cut word v = (seat_state v.steps ≡ Outside) × (2 ≤ v.count)
 May Enter word v = (seat_state v.steps ≡ Outside) × (v.count ≡ 1) × (is_shut word ≡ false)
 May Bounce word v = (seat_state v.steps ≡ Outside) × (v.count ≡ 1) × (is_shut word ≡ true)
@@ -46,7 +46,7 @@ word_after Look word = word
 word_after Witness word = word
 
 -- and of the view of the seat that makes it
-abbrev pub view_after : Kind → ℕ → View → View
+abbrev pub view_after : Kind → ℕ → GateView → GateView
 view_after Cut word v = rest_after_cut v
 view_after Enter word v = stepped (Entered word) v
 view_after Bounce word v = stepped (Bounced word) v
@@ -58,11 +58,11 @@ view_after Look word v = stepped (Looked word) v
 view_after Witness word v = v
 
 -- and the view that it brings
-abbrev pub new_views : Kind → View → List View
+abbrev pub new_views : Kind → GateView → List GateView
 new_views Cut v = cut_seat v ∷ []
 new_views Witness v = token v.seats ∷ []
 new_views _ v = []
 
 -- all views, where the seat at this place makes the step
-abbrev pub views_after : Kind → ℕ → List View → ℕ → View → List View
+abbrev pub views_after : Kind → ℕ → List GateView → ℕ → GateView → List GateView
 views_after kind word views place v = slice_set views place (view_after kind word v) ++ new_views kind v

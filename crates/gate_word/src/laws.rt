@@ -3,7 +3,7 @@
 ghost use Rattle.std.specs.Prelude.{◌≡◌, ◌↔◌, ℕ, true, List, All};
 ghost use mathlib.Core.Option.{some};
 ghost use lib.ListN.{get_elem?};
-ghost use Rattle.gate_word.specs.declared.step.View.{View};
+ghost use Rattle.gate_word.specs.declared.step.GateView.{GateView};
 ghost use Rattle.gate_word.specs.Steps.{is_shut, has_shut, found_shut, knows_shut, saw_drained};
 ghost use Rattle.gate_word.specs.Seats.{Seat};
 ghost use Rattle.gate_word.specs.GateLaw.{GateLaw, IsOutside};
@@ -19,10 +19,10 @@ ghost use Rattle.gate_word.specs.Calls.{Makes};
 /// drained, the bit is set and nobody is inside (`holds`). The word is 1 exactly where the gate is shut and everybody
 /// is outside (`drained`). A gate that is shut is never open again (`stays_shut`).
 pub fn gate_law()
-    ensures holds { (seats word : ℕ) (views : List View) → Reaches seats word views → GateLaw seats word views }
-    ensures drained { (seats word : ℕ) (views : List View) → Reaches seats word views →
+    ensures holds { (seats word : ℕ) (views : List GateView) → Reaches seats word views → GateLaw seats word views }
+    ensures drained { (seats word : ℕ) (views : List GateView) → Reaches seats word views →
         (word ≡ 1) ↔ ((is_shut word ≡ true) × All IsOutside views) }
-    ensures stays_shut { (kind : Kind) (seats word : ℕ) (views : List View) (place : ℕ) (v : View) →
+    ensures stays_shut { (kind : Kind) (seats word : ℕ) (views : List GateView) (place : ℕ) (v : GateView) →
         GateLaw seats word views → get_elem? views place ≡ some v → May kind word v →
         is_shut word ≡ true → is_shut (word_after kind word) ≡ true }
 {}

@@ -41,5 +41,5 @@ mod word;
 pub use error::{GateError, Refused};
 pub use gate::{Gate, MOST_SEATS};
 pub use seat::{Drained, GateSeat, Turn};
-pub use step::{Step, View};
+pub use step::{GateStep, GateView};
 pub use visitor::Visitor;

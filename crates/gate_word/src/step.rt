@@ -2,7 +2,7 @@
 use std::collections::LinkedList;
 
 /// One step of one seat on the gate's word, with the number that it found there.
-pub enum Step {
+pub enum GateStep {
     /// `enter` found the gate open, and added 2: the seat is inside.
     Entered(u64),
     /// `enter` found the gate shut, and added 2, which the same call takes off again.
@@ -19,9 +19,9 @@ pub enum Step {
 
 /// What the holder of some seats knows: how many seats its gate has, the numbers of its own, which are `count` from
 /// `first` on, and the steps that were made, the newest first.
-pub struct View {
+pub struct GateView {
     pub seats: u64,
     pub first: u64,
     pub count: u64,
-    pub steps: LinkedList<Step>,
+    pub steps: LinkedList<GateStep>,
 }

@@ -8,14 +8,14 @@ ghost use Rattle.gate_word.specs.Seats.{cut_seat, rest_after_cut, token};
 ghost use Rattle.gate_word.specs.Kinds.Kind.{TakeOff, Leave, SetBit};
 ghost use Rattle.gate_word.specs.Rule.{IsPassOf, IsToken, entry, look, Tells, clash};
 
-use crate::step::View;
+use crate::step::GateView;
 use atomic_table::{Join, Play, Seat, Split, Table, TableRule};
 use std::alloc::Global;
 
 /// Some schedule of steps leads to what the word and the views are. The table is told how many seats there are.
 pub struct Past;
 
-impl TableRule<(), View, usize> for Past {
+impl TableRule<(), GateView, usize> for Past {
     ghost use Rattle.gate_word.specs.Seats.{all_seats};
     ghost use Rattle.gate_word.specs.Rule.{HasPast};
 
@@ -24,14 +24,14 @@ impl TableRule<(), View, usize> for Past {
     ghost first = { all_seats };
 }
 
-pub type Word = Table<(), View, usize, Past, Global>;
+pub type Word = Table<(), GateView, usize, Past, Global>;
 
-pub type Pass = Seat<(), View>;
+pub type Pass = Seat<(), GateView>;
 
 /// Adds 2.
 pub struct Entering;
 
-impl Play<(), View> for Entering {
+impl Play<(), GateView> for Entering {
     ghost use Rattle.gate_word.specs.Rule.{entry, Tells};
 
     ghost then = { λ _. Tells entry };
@@ -40,7 +40,7 @@ impl Play<(), View> for Entering {
 /// Takes 2 off that were added at a shut gate.
 pub struct TakingOff;
 
-impl Play<(), View> for TakingOff {
+impl Play<(), GateView> for TakingOff {
     ghost use Rattle.gate_word.specs.Kinds.Kind.{TakeOff};
     ghost use Rattle.gate_word.specs.Rule.{Tells};
 
@@ -50,7 +50,7 @@ impl Play<(), View> for TakingOff {
 /// Takes 2 off that were added at an open gate.
 pub struct Leaving;
 
-impl Play<(), View> for Leaving {
+impl Play<(), GateView> for Leaving {
     ghost use Rattle.gate_word.specs.Kinds.Kind.{Leave};
     ghost use Rattle.gate_word.specs.Rule.{Tells};
 
@@ -60,7 +60,7 @@ impl Play<(), View> for Leaving {
 /// Sets the shut bit.
 pub struct Shutting;
 
-impl Play<(), View> for Shutting {
+impl Play<(), GateView> for Shutting {
     ghost use Rattle.gate_word.specs.Kinds.Kind.{SetBit};
     ghost use Rattle.gate_word.specs.Rule.{Tells};
 
@@ -70,7 +70,7 @@ impl Play<(), View> for Shutting {
 /// Reads the word.
 pub struct Looking;
 
-impl Play<(), View> for Looking {
+impl Play<(), GateView> for Looking {
     ghost use Rattle.gate_word.specs.Rule.{look, Tells};
 
     ghost then = { λ _. Tells look };
@@ -79,7 +79,7 @@ impl Play<(), View> for Looking {
 /// Cuts the lowest seat off those that `open` still has.
 pub struct Cutting;
 
-impl Split<View> for Cutting {
+impl Split<GateView> for Cutting {
     ghost use Rattle.gate_word.specs.Seats.{cut_seat, rest_after_cut};
 
     ghost left = { rest_after_cut };
@@ -90,7 +90,7 @@ impl Split<View> for Cutting {
 /// Makes a token of a view that saw the gate drained.
 pub struct Witnessing;
 
-impl Split<View> for Witnessing {
+impl Split<GateView> for Witnessing {
     ghost use Rattle.gate_word.specs.Seats.{token};
 
     ghost left = { λ v. v };
@@ -101,7 +101,7 @@ impl Split<View> for Witnessing {
 /// Puts a turn's view and a token's into one, which the law allows nobody to have.
 pub struct Clashing;
 
-impl Join<View> for Clashing {
+impl Join<GateView> for Clashing {
     ghost use Rattle.gate_word.specs.Seats.{token};
     ghost use Rattle.gate_word.specs.Rule.{clash};
 
@@ -113,7 +113,7 @@ impl Join<View> for Clashing {
 /// A step that nobody can make.
 pub struct Never;
 
-impl Play<(), View> for Never {
+impl Play<(), GateView> for Never {
     ghost then = { λ _ _ _ _. ⊥ };
 }
 

@@ -1,5 +1,6 @@
 -- How a group ends, in the words of its state machine: where its jobs are, and who was the first to be handed which.
 use Rattle.std.specs.Prelude.{◌≡◌, ℕ, ◌==◌, ◌<◌, ◌≤◌, List, [], All, Contains, count_by, slice_index_or}
+use Rattle.limits.specs.Limits.{most_members}
 use Rattle.dispatch_core.specs.declared.event.Job.{Job}
 use Rattle.dispatch_core.specs.GroupState.{GroupState, spot_of, accepted_of, firsts_of}
 use Rattle.dispatch_core.specs.JobRuns.{count_of}
@@ -14,7 +15,7 @@ use Rattle.group_jobs.specs.Spots.{times_queued, times_out, times_returned, time
 -- first hand-outs and what was never handed out keep the order of each port
 pub record AreOrderly (accounts : List Account) (report : Report) : Type 0 where
   -- each place has a number of its own, of 0 to 31
-  pub numbered : All (λ a. a.place < 32) accounts
+  pub numbered : All (λ a. a.place < most_members) accounts
   pub apart : (place : ℕ) → count_by (λ a. a.place == place) accounts ≤ 1
   -- each place's first hand-outs rise in each port's numbers
   pub rising : All (λ a. RisesByPort a.firsts) accounts

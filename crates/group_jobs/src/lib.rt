@@ -25,7 +25,7 @@ pub use envelope::Envelope;
 pub use error::JobError;
 pub use fate::Fate;
 pub use ledger::Ledger;
-pub use message::{Expiry, Message};
+pub use message::{Message, MessageExpiry};
 pub use report::Report;
 pub use shared_message::SharedMessage;
 pub use stamp::Stamp;

@@ -4,7 +4,7 @@ use mqtt_packet::{RareProperties, Text};
 
 /// How long a message may wait for a member (section 3.3.2.3.3).
 #[derive(Clone, Copy, Debug, PartialEq, Eq)]
-pub struct Expiry {
+pub struct MessageExpiry {
     /// The Message Expiry Interval of the PUBLISH that it came in, in seconds.
     pub seconds: u32,
     /// The moment at which that came, in milliseconds.
@@ -18,7 +18,7 @@ pub struct Message {
     /// The Topic Name (section 3.3.2.1).
     pub topic: Text,
     /// How long it may wait; `None` where it never expires.
-    pub expiry: Option<Expiry>,
+    pub expiry: Option<MessageExpiry>,
     /// The properties that go with it from its publisher to its member unaltered (section 3.3.2.3).
     pub properties: RareProperties,
     /// The Application Message (section 3.3.3).

@@ -14,7 +14,7 @@ use Rattle.group_jobs.specs.declared.fate.Fate.TheVariants.{Acknowledged, Refuse
 use Rattle.std.proofs.lemmas.List.Sums.{sum_by-append}
 use Rattle.group_jobs.specs.declared.ledger.Ledger.{Ledger}
 use Rattle.group_jobs.specs.Settled.{settled_as, IsUnsettled, KeepsSettled, Settles}
-use Rattle.shared_ledger.specs.declared.share.Share.{Share}
+use Rattle.shared_ledger.specs.declared.share.LedgerShare.{LedgerShare}
 use Rattle.shared_ledger.specs.Giving.{times_in}
 use Rattle.shared_ledger.specs.Givers.{GiverState, GivesAll, Gathers}
 use Rattle.group_jobs.specs.declared.error.JobError.{JobError}
@@ -164,7 +164,7 @@ gathers_hands number old new t giver after h g = record {
   small = subst (All IsSmall) (sym g.out) h.small;
 }
 
-pub gathers_any : (saw : List Ledger → List Share → Type 0) (number : ℕ) (old new : Kept) (t : Passes) (giver after : GiverState) (result : Result Bool JobError) → IsInHands number old t giver → Gathers saw giver old result after new → IsInHands number new t after
+pub gathers_any : (saw : List Ledger → List LedgerShare → Type 0) (number : ℕ) (old new : Kept) (t : Passes) (giver after : GiverState) (result : Result Bool JobError) → IsInHands number old t giver → Gathers saw giver old result after new → IsInHands number new t after
 gathers_any saw number old new t giver after (Ok true) h g = gathers_hands number old new t giver after h g
 gathers_any saw number old new t giver after (Ok false) h g = subst (λ (q : Kept × GiverState). IsInHands number q.0 t q.1) (λ i. (sym g.1 i, sym g.0 i)) h
 gathers_any saw number old new t giver after (Err error) h g = subst (λ (q : Kept × GiverState). IsInHands number q.0 t q.1) (λ i. (sym g.1 i, sym g.0 i)) h

@@ -1,6 +1,7 @@
 -- What who ends a group knows, once it has taken in the passes of all ports and places. No public clause cites this module.
 use Rattle.std.specs.Prelude.{◌≡◌, ℕ, ◌+◌, ◌≤◌, ◌<◌, List, [], ◌++◌, map, length, sum_by, All, Contains, vec_capacity, Result, Ok, Err}
 use Rattle.std.specs.List.Sorted.{IsPermutation}
+use Rattle.limits.specs.Limits.{most_members}
 use Rattle.crossbeam_queue.specs.Passes.{view}
 use Rattle.group_jobs.specs.Dockets.{Kept}
 use Rattle.group_jobs.specs.declared.fate.Fate.{Fate}
@@ -116,4 +117,4 @@ pub record IsJoined (group : GroupId) (ports : List PortState) (places : List Pl
   pub pushed : (worth : Posted → ℕ) → sum_by worth (bag_of passes.returns).pushed ≡ sum_by (λ (p : PlaceState). sum_by worth p.given) order
   pub kept : dockets ≡ map (λ (p : PlaceState). p.docket) order
   pub balanced : All IsBalanced order
-  pub few : group.shape.places ≤ 32
+  pub few : group.shape.places ≤ most_members

@@ -1,5 +1,6 @@
 -- What `offer` answers.
 use Rattle.std.specs.Prelude.{◌≡◌, ◌≢◌, ◌+◌, List, ◌∷◌, ◌++◌, [], Result, Ok, Err}
+use Rattle.limits.specs.Limits.{most_accepted}
 use Rattle.crossbeam_queue.specs.Fifo.{Held}
 use Rattle.group_jobs.specs.declared.message.Message.{Message}
 use Rattle.group_jobs.specs.declared.stamp.Stamp.{Stamp}
@@ -17,14 +18,14 @@ use Rattle.group_queue.specs.Ports.{GroupId, PortState, next_posted, next_stamp}
 -- the message joined the queue at its back, and the port has sent it
 pub record Accepts (old : PortState) (message : Message) (stamp : Stamp) (new : PortState) : Type 0 where
   pub stamp_is : stamp ≡ next_stamp old
-  pub few : old.accepted ≢ 1099511627776
+  pub few : old.accepted ≢ most_accepted
   pub back : Adds (one (Port old.number) old.sent) (next_posted old message) (one (Port new.number) new.sent)
   pub is : new ≡ record old { accepted = old.accepted + 1; sent = old.sent ++ next_posted old message ∷ [] }
 
 -- why a message is not accepted: the witness saw the queue full at one moment of the call, or the port has accepted 2^40 messages
 abbrev pub IsBecause : (List Posted → List View → Type 0) → GroupId → PortState → OfferError → Type 0
-IsBecause saw group old Full = (old.accepted ≢ 1099511627776) × Held group.capacity (SawMain saw (one (Port old.number) old.sent))
-IsBecause saw group old LifeSpent = old.accepted ≡ 1099511627776
+IsBecause saw group old Full = (old.accepted ≢ most_accepted) × Held group.capacity (SawMain saw (one (Port old.number) old.sent))
+IsBecause saw group old LifeSpent = old.accepted ≡ most_accepted
 
 abbrev pub OfferAnswers : (List Posted → List View → Type 0) → GroupId → PortState → Message → Result Stamp NotTaken → PortState → Type 0
 OfferAnswers saw group old message (Ok stamp) new = Accepts old message stamp new

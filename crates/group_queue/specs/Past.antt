@@ -3,6 +3,7 @@
 use Rattle.std.specs.Prelude.{◌≡◌, ℕ, ◌<◌, ◌≤◌, ◌==◌, true, List, [], ◌∷◌, ◌++◌, length, map, filter, Contains}
 use mathlib.Core.Option.{some}
 use lib.ListN.{get_elem?}
+use Rattle.limits.specs.Limits.{most_accepted}
 use Rattle.group_queue.specs.declared.posted.Posted.{Posted}
 use Rattle.group_queue.specs.declared.view.Name.{Name}
 use Rattle.group_queue.specs.declared.view.Name.TheVariants.{Port, Place, Finisher}
@@ -35,7 +36,7 @@ list_of Finisher past items = popped_by Finisher past
 -- each message has as its number how many came through its port before it, which are fewer than 2^40
 abbrev pub AreNumbered : List Posted → Type 0
 AreNumbered all = (front behind : List Posted) (posted : Posted) → all ≡ front ++ posted ∷ behind
-    → (posted.job.number ≡ length (through posted.job.port front)) × (posted.job.number < 1099511627776)
+    → (posted.job.number ≡ length (through posted.job.port front)) × (posted.job.number < most_accepted)
 
 -- what a pass knows is what those did whose names it has, and it is the one pass that has them
 pub record Fits (past : List Pop) (items : List Posted) (owner : Name → ℕ) (pass : ℕ) (v : View) : Type 0 where

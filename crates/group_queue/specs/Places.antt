@@ -13,7 +13,7 @@ use Rattle.group_jobs.specs.Settled.{settled_as, KeepsSettled, IsUnsettled, Sett
 use Rattle.group_jobs.specs.Dockets.{Kept, TakesOff}
 use Rattle.group_jobs.specs.Balance.{Account, Balance}
 use Rattle.group_jobs.specs.declared.ledger.Ledger.{Ledger}
-use Rattle.shared_ledger.specs.declared.share.Share.{Share}
+use Rattle.shared_ledger.specs.declared.share.LedgerShare.{LedgerShare}
 use Rattle.shared_ledger.specs.Giving.{times_in}
 use Rattle.shared_ledger.specs.Givers.{GiverState, Gathers}
 use Rattle.group_queue.specs.declared.posted.Posted.{Posted}
@@ -174,5 +174,5 @@ GiveBackAnswers old envelope (Ok done) new = GivesBack old envelope new
 GiveBackAnswers old envelope (Err back) new = (back ≡ envelope) × (new ≡ old)
 
 -- what `gather` answers: what the place had settled was given to the group's ledger; or the place is as it was
-abbrev pub GatherAnswers : (List Ledger → List Share → Type 0) → PlaceState → Result Bool JobError → PlaceState → Type 0
+abbrev pub GatherAnswers : (List Ledger → List LedgerShare → Type 0) → PlaceState → Result Bool JobError → PlaceState → Type 0
 GatherAnswers saw old result new = Gathers saw old.giver old.docket result new.giver new.docket × (new ≡ record old { docket = new.docket; giver = new.giver })

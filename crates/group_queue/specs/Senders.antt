@@ -1,5 +1,6 @@
 -- What stands behind a port. No public clause cites this module.
 use Rattle.std.specs.Prelude.{◌≡◌, ℕ, ◌≤◌, List, [], length}
+use Rattle.limits.specs.Limits.{most_accepted}
 use Rattle.crossbeam_queue.specs.Passes.{Pass, view}
 use Rattle.group_queue.specs.declared.posted.Posted.{Posted}
 use Rattle.group_queue.specs.declared.view.View.{View}
@@ -16,6 +17,6 @@ pub record IsSender (number : ℕ) (pass : Pass Posted View) : Type 0 where
 
 -- a port's messages are counted, and are no more than it may send
 pub record IsCounted (number accepted : ℕ) (pass : Pass Posted View) : Type 0 where
-  pub few : accepted ≤ 1099511627776
+  pub few : accepted ≤ most_accepted
   pub sender_is : IsSender number pass
   pub many : length (sent_by pass) ≡ accepted

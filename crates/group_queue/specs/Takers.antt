@@ -1,5 +1,6 @@
 -- What stands behind a place. No public clause cites this module.
 use Rattle.std.specs.Prelude.{◌≡◌, ℕ, ◌<◌, ◌≤◌, ◌-◌, [], All, Option, Some, None}
+use Rattle.limits.specs.Limits.{most_members}
 use Rattle.crossbeam_queue.specs.Passes.{view}
 use Rattle.group_jobs.specs.Dockets.{Kept}
 use Rattle.group_jobs.specs.Balance.{Balance}
@@ -41,7 +42,7 @@ pub record AreBare (passes : Passes) : Type 0 where
 
 -- the passes are those of this place, and the docket is in balance with what they know and with what was given
 pub record IsInHands (number : ℕ) (docket : Kept) (passes : Passes) (giver : GiverState) : Type 0 where
-  pub few : number < 32
+  pub few : number < most_members
   pub main : IsOf (Place number) (view passes.main)
   pub part : (bag_of passes.returns).parts ≡ 1
   pub bare : AreBare passes
@@ -53,7 +54,7 @@ pub record AreLeft (passes left : Passes) : Type 0 where
   pub of : hands_of left ≡ hands_of passes
   pub main : view left.main ≡ keeper (view left.main).ports (view left.main).places
   pub parts : bag_of left.returns ≡ bag (64 - (view left.main).places) [] []
-  pub few : (view left.main).places ≤ 32
+  pub few : (view left.main).places ≤ most_members
   pub bare : AreBare left
 
 abbrev pub IsKept : Passes → Option Passes → Type 0

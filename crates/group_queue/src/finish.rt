@@ -1,5 +1,6 @@
 //! How a group ends, with a report.
 ghost use Rattle.std.specs.Prelude.{◌≡◌, ◌≤◌, ◌+◌, [], sum_by, length, vec_capacity, All, None};
+ghost use Rattle.limits.specs.Limits.{most_members};
 ghost use Rattle.dispatch_core.specs.declared.event.Job.{Job as job_type};
 ghost use Rattle.dispatch_core.specs.JobRuns.{count_of};
 ghost use Rattle.group_jobs.specs.declared.fate.Fate.{Fate as fate_type};
@@ -212,7 +213,7 @@ impl<'a, W: LawfulWitness> SharedGroup<'a, W> {
         requires of { IsPlaceOf self.now place.old }
         requires last { place.old.number + 1 ≡ self.now.shape.places }
         ensures left { AreLeftOf self.now self.now.shape.places result }
-        ensures few { self.now.shape.places ≤ 32 }
+        ensures few { self.now.shape.places ≤ most_members }
         ensures place { place.new ≡ record place.old { keeps = None } }
     {
         let Some(keeper) = place.keeper.take() else {

@@ -13,13 +13,11 @@ use crate::{main_queue, returns_queue};
 use dispatch_core::Job;
 use gate_word::{Drained, Gate, Turn};
 use group_jobs::{Envelope, JobError, SharedMessage, Stamp};
+use limits::MOST_ACCEPTED;
 use shared_ledger::SharedLedger;
 use std::alloc::Global;
 use std::marker::Model;
 use std::sync::Wait;
-
-/// How many messages a port accepts in all: 2^40 (profile).
-pub(crate) const LIFE: u64 = 1 << 40;
 
 /// A group of one share behind a gate, which threads use by reference. It is ended by [`SharedGroup::finish`], or given up by
 /// [`SharedGroup::abandon`]. `W` is its witness, for contracts alone.
@@ -81,7 +79,7 @@ impl<'a, W: Witness> SharedGroup<'a, W> {
         ensures of { IsPortOf self.now port.new }
     {
         let _ = turn;
-        if port.accepted == LIFE {
+        if port.accepted == MOST_ACCEPTED {
             return Err(NotTaken {
                 message,
                 error: OfferError::LifeSpent,

@@ -2,6 +2,7 @@
 //! under the rule that it has a past: whoever pushed and popped, in whatever order, what each of them did is read off that
 //! one past. So each step owes the queue that the past goes on, and tells what it added to it.
 ghost use Rattle.std.specs.Prelude.{◌≡◌, ◌<◌, ◌+◌, ◌++◌, true, false, List, [], ◌∷◌, length, IfOk, MatchResult, MatchOption};
+ghost use Rattle.limits.specs.Limits.{most_accepted};
 ghost use Rattle.group_queue.specs.declared.posted.Posted.{Posted as posted_type};
 ghost use Rattle.crossbeam_queue.specs.Fifo.{Held};
 ghost use Rattle.crossbeam_queue.specs.Passes.{view, IsPassOf, IsSamePass, ruled_capacity};
@@ -166,7 +167,7 @@ pub fn push<W: Witness, R: Wait>(
     requires queue { IsPassOf queue.now pass.old }
     requires port { IsOf (names.Port posted.job.port) (view pass.old) }
     requires next { posted.job.number ≡ length (list_in (view pass.old)) }
-    requires few { posted.job.number < 1099511627776 }
+    requires few { posted.job.number < most_accepted }
     requires follows { FollowsPort W.saw_main posted.job.port }
     ensures queue { IsPassOf queue.now pass.new }
     ensures answer { MatchResult result (λ _. Adds (view pass.old) posted (view pass.new))

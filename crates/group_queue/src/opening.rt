@@ -1,5 +1,6 @@
 //! How a group is opened: its queues, its ports and its places.
 ghost use Rattle.std.specs.Prelude.{◌≡◌, ◌≢◌, ◌≤◌, ◌<◌, ◌+◌, [], IfOk, MatchOption, All, vec_capacity};
+ghost use Rattle.limits.specs.Limits.{most_members, most_ports, most_waiting};
 ghost use Rattle.crossbeam_queue.specs.Passes.{view};
 ghost use Rattle.group_queue.specs.Views.{keeper};
 
@@ -33,9 +34,9 @@ impl<'a> SharedGroup<'a> {
         places: u8,
         capacity: usize,
     ) -> Result<(SharedGroup<'a>, Vec<Port>, Vec<Place>), JobError>
-        requires ports { (1 ≤ ports) × (ports ≤ 64) }
-        requires places { (1 ≤ places) × (places ≤ 32) }
-        requires capacity { (1 ≤ capacity) × (capacity ≤ 65536) }
+        requires ports { (1 ≤ ports) × (ports ≤ most_ports) }
+        requires places { (1 ≤ places) × (places ≤ most_members) }
+        requires capacity { (1 ≤ capacity) × (capacity ≤ most_waiting) }
         ensures group { IfOk result (λ opened. (opened.0.slot ≡ slot) × (opened.0.capacity ≡ capacity) × (opened.0.gate ≡ gate.entry.now)) }
         ensures shape { IfOk result (λ opened. (opened.0.shape.ports ≡ ports) × (opened.0.shape.places ≡ places)) }
         ensures ports { IfOk result (λ opened. AreNewPorts opened.0 ports opened.1.items) }
@@ -68,9 +69,9 @@ impl<'a, W: LawfulWitness> SharedGroup<'a, W> {
         places: u8,
         capacity: usize,
     ) -> Result<(SharedGroup<'a, W>, Vec<Port<W>>, Vec<Place<W>>), JobError>
-        requires ports { (1 ≤ ports) × (ports ≤ 64) }
-        requires places { (1 ≤ places) × (places ≤ 32) }
-        requires capacity { (1 ≤ capacity) × (capacity ≤ 65536) }
+        requires ports { (1 ≤ ports) × (ports ≤ most_ports) }
+        requires places { (1 ≤ places) × (places ≤ most_members) }
+        requires capacity { (1 ≤ capacity) × (capacity ≤ most_waiting) }
         ensures group { IfOk result (λ opened. (opened.0.slot ≡ slot) × (opened.0.capacity ≡ capacity) × (opened.0.gate ≡ gate.entry.now)) }
         ensures shape { IfOk result (λ opened. (opened.0.shape.ports ≡ ports) × (opened.0.shape.places ≡ places)) }
         ensures ports { IfOk result (λ opened. AreNewPorts opened.0 ports opened.1.items) }
@@ -139,7 +140,7 @@ impl<'a, W: LawfulWitness> SharedGroup<'a, W> {
     fn fill_places(&self, alloc: Global, left: Passes, giver: Giver<W>, places: &mut Vec<Place<W>>)
         requires left { AreLeftOf self.now 0 left }
         requires giver { giver ≡ new_giver self.now.ledger 64 }
-        requires count { (1 ≤ self.now.shape.places) × (self.now.shape.places ≤ 32) }
+        requires count { (1 ≤ self.now.shape.places) × (self.now.shape.places ≤ most_members) }
         requires room { (places.old.items ≡ []) × (self.now.shape.places ≤ vec_capacity places.old) }
         ensures places { AreNewPlaces self.now self.now.shape.places places.new.items }
     {
@@ -158,7 +159,7 @@ impl<'a, W: LawfulWitness> SharedGroup<'a, W> {
     // Gives the passes of the next place away, which has this number.
     fn cut(&self, left: &mut Passes, number: u8) -> Passes
         requires left { AreLeftOf self.now number left.old }
-        requires few { number < 32 }
+        requires few { number < most_members }
         ensures left { AreLeftOf self.now (number + 1) left.new }
         ensures new { AreNewPasses self.now number result }
     {
@@ -182,7 +183,7 @@ impl<'a, W: LawfulWitness> SharedGroup<'a, W> {
         requires parts { (1 ≤ giver.parts) × (number + 1 ≡ self.now.shape.places → 65 ≤ giver.parts + self.now.shape.places) }
         requires number { number < self.now.shape.places }
         requires keeper { MatchOption keeper (number + 1 ≢ self.now.shape.places) (AreLeftOf self.now self.now.shape.places) }
-        requires few { self.now.shape.places ≤ 32 }
+        requires few { self.now.shape.places ≤ most_members }
         ensures place { IsNewPlace self.now number result }
     {
         Place {

@@ -1,5 +1,6 @@
 //! Places: where a group hands messages out.
 ghost use Rattle.std.specs.Prelude.{◌≡◌, ◌<◌, ◌≤◌, ◌↔◌, IsTrue, All, OnOk, OnErr};
+ghost use Rattle.limits.specs.Limits.{most_members};
 ghost use Rattle.group_jobs.specs.Stamps.{stamp_of, job_of};
 
 use crate::main_queue::MainPass;
@@ -64,7 +65,7 @@ impl<W: Witness> Place<W> {
     /// Its number in its group, from 0 to 31.
     pub fn number(&self) -> u8
         ensures value { result ≡ self.now.number }
-        ensures few { result < 32 }
+        ensures few { result < most_members }
     {
         self.number
     }

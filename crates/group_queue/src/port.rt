@@ -1,5 +1,6 @@
 //! Ports: where a group accepts messages.
 ghost use Rattle.std.specs.Prelude.{◌≡◌, ◌≤◌};
+ghost use Rattle.limits.specs.Limits.{most_accepted};
 
 use crate::main_queue::MainPass;
 use crate::witness::{Nobody, Witness};
@@ -49,7 +50,7 @@ impl<W: Witness> Port<W> {
     /// How many messages it accepted, 2^40 at most: their numbers are those below.
     pub fn accepted(&self) -> u64
         ensures value { result ≡ self.now.accepted }
-        ensures few { result ≤ 1099511627776 }
+        ensures few { result ≤ most_accepted }
     {
         self.accepted
     }

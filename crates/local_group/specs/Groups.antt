@@ -1,5 +1,6 @@
 -- A group on one thread: what it has, and what each call makes of it.
 use Rattle.std.specs.Prelude.{◌≡◌, ◌≢◌, ℕ, ◌<◌, ◌≤◌, true, false, List, [], ◌∷◌, ◌++◌, length, Option, Some, None}
+use Rattle.limits.specs.Limits.{most_accepted}
 use Rattle.dispatch_core.specs.declared.event.Job.{Job}
 use Rattle.dispatch_core.specs.declared.event.Event.{Event}
 use Rattle.dispatch_core.specs.declared.event.Event.TheVariants.{Accept, First, Ack, Refuse, Discard, Back, Again, Close}
@@ -31,7 +32,7 @@ pub record Group : Type 0 where
 
 -- a port accepts so many messages in its life: 2^40 (profile)
 abbrev pub life : ℕ
-life = 1099511627776
+life = most_accepted
 
 abbrev pub waits : Job → Message → Waiting
 waits job message = record { job = job; message = message }

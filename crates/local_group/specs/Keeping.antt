@@ -1,5 +1,6 @@
 -- How a group keeps its lists beside its state. No public clause cites this module.
 use Rattle.std.specs.Prelude.{◌≡◌, ℕ, ◌+◌, ◌<◌, ◌≤◌, List, [], ◌∷◌, length, Option, Some, None, IsSome, if◌then◌else◌}
+use Rattle.limits.specs.Limits.{most_members, most_ports}
 use Rattle.dispatch_core.specs.declared.event.Job.{Job}
 use Rattle.dispatch_core.specs.declared.event.Event.{Event}
 use Rattle.dispatch_core.specs.declared.event.Spot.TheVariants.{Held}
@@ -23,8 +24,8 @@ pub record Outs (state : GroupState) (count : ℕ) : Type 0 where
 
 -- the ports and places that a state names are there
 pub record IsRanged (state : GroupState) : Type 0 where
-  pub ports : (job : Job) → IsSome (spot_of state job) → job.port < 64
-  pub places : (job : Job) (place : ℕ) → spot_of state job ≡ Some (Held place) → place < 32
+  pub ports : (job : Job) → IsSome (spot_of state job) → job.port < most_ports
+  pub places : (job : Job) (place : ℕ) → spot_of state job ≡ Some (Held place) → place < most_members
 
 -- what a group keeps from call to call
 pub record IsKept (state : GroupState) (events : List Event) (queue returned : List Waiting) (out : ℕ) : Type 0 where

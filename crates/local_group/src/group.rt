@@ -1,5 +1,6 @@
 //! A group on one thread.
 ghost use Rattle.std.specs.Prelude.{◌≡◌, ◌≢◌, ◌≤◌, ◌<◌, ◌↔◌, Err, OnOk, OnErr, IfOk, IfErr, IsTrue};
+ghost use Rattle.limits.specs.Limits.{most_members, most_ports};
 ghost use Rattle.local_group.specs.Groups.{IsFresh, IsHeld, Accepts, MayOffer, MayNotOffer, held_by, Takes, TakesBack, MayNotTake, Settles, GivesBack, Closes, event_of};
 ghost use Rattle.dispatch_core.specs.History.{IsRun};
 ghost use Rattle.local_group.specs.Keeping.{IsRanged};
@@ -12,12 +13,10 @@ use crate::events::{conclude, note};
 use crate::waiting::{Waiting, front_of, make_way_back, put_behind, take_front};
 use dispatch_core::{Event, Job, Spot, State};
 use group_jobs::{Envelope, Fate, JobError, SharedMessage, Stamp};
+use limits::MOST_ACCEPTED;
 use std::alloc::Global;
 use std::collections::VecDeque;
 use std::marker::Model;
-
-/// How many messages a port accepts in its life.
-const LIFE: u64 = 1 << 40;
 
 /// A group on one thread: it accepts messages through its 64 ports, hands each to one of its 32 places, and keeps the list of
 /// what happened. Ports and places are numbers, from 0 on.
@@ -133,7 +132,7 @@ impl LocalGroup {
     ///
     /// The first that applies, with the message: 401, 502, 501 or 503 of [`OfferError`].
     pub fn offer(&mut self, port: u8, message: SharedMessage) -> Result<Stamp, NotTaken>
-        requires port { port < 64 }
+        requires port { port < most_ports }
         ensures accepted { IfOk result (λ stamp. Accepts self.old port message stamp self.new) }
         ensures refused { IfErr result (λ refusal. MayNotOffer self.old port refusal.why) }
         ensures handed_back { IfErr result (λ refusal. refusal.message ≡ message) }
@@ -166,7 +165,7 @@ impl LocalGroup {
         if self.state.closed() {
             return Err(OfferError::Shut);
         }
-        if self.state.accepted(port) >= LIFE {
+        if self.state.accepted(port) >= MOST_ACCEPTED {
             return Err(OfferError::LifeSpent);
         }
         if self.queue.len() >= self.capacity {
@@ -181,7 +180,7 @@ impl LocalGroup {
     ///
     /// The first that applies: 401 or 503 of [`TakeError`].
     pub fn take(&mut self, place: u8) -> Result<Option<Envelope>, TakeError>
-        requires place { place < 32 }
+        requires place { place < most_members }
         ensures taken { IfOk result (λ found. Takes self.old place found self.new) }
         ensures refused { IfErr result (MayNotTake self.old self.old.queue) }
         ensures unchanged { OnErr result (self.new ≡ self.old) }
@@ -206,7 +205,7 @@ impl LocalGroup {
     ///
     /// The first that applies: 401 or 503 of [`TakeError`].
     pub fn take_back(&mut self, place: u8) -> Result<Option<Envelope>, TakeError>
-        requires place { place < 32 }
+        requires place { place < most_members }
         ensures taken { IfOk result (λ found. TakesBack self.old place found self.new) }
         ensures refused { IfErr result (MayNotTake self.old self.old.returned) }
         ensures unchanged { OnErr result (self.new ≡ self.old) }

@@ -8,8 +8,9 @@ ghost use Rattle.local_group.specs.Tallies.{Tallies, AreAccepted, Counts, Gains}
 
 use crate::group::LocalGroup;
 use crate::waiting::Waiting;
-use dispatch_core::{Job, PORTS, Spot, State};
+use dispatch_core::{Job, Spot, State};
 use group_jobs::{Fate, JobError, Ledger, Report};
+use limits::MOST_PORTS;
 use std::alloc::Global;
 use std::collections::VecDeque;
 
@@ -47,11 +48,11 @@ fn tally_all(alloc: Global, state: &State) -> Result<Tally, JobError>
     ensures accepted { IfOk result (λ tally. AreAccepted state.now 64 tally.accepted.items) }
 {
     let mut tally = Tally {
-        accepted: Vec::with_capacity(alloc, usize::from(PORTS))?,
+        accepted: Vec::with_capacity(alloc, usize::from(MOST_PORTS))?,
         settled: Ledger::new(alloc),
         held: Vec::new(alloc),
     };
-    for port in 0..PORTS {
+    for port in 0..MOST_PORTS {
         tally_port(state, port, &mut tally)?;
     }
     Ok(tally)

@@ -1,6 +1,7 @@
 -- The calls of a window: what each needs of its caller, what it answers, and what it makes of the window.
 use Rattle.std.specs.Prelude.{◌≡◌, ℕ, ◌<◌, ◌≤◌, true, false, List, [], ◌∷◌, length, Option, Some, None, Result, Ok, Err, Contains}
 use Rattle.std.specs.Borrow.{Bor}
+use Rattle.limits.specs.Limits.{most_unacknowledged}
 use Rattle.member_window.specs.Identifiers.{identifiers, IsLeastFree}
 use Rattle.member_window.specs.Contents.{Contents, held_of, HasRoom, IsDown, IsNextResend, after_up, after_down, after_put, after_resend, after_ack, after_take, after_restore}
 
@@ -41,9 +42,9 @@ Takes old None new = (held_of old ≡ []) × (new ≡ after_take old [])
 -- an item may be put back under this identifier
 pub record MayRestore {T : Type 0} (w : Contents T) (identifier : ℕ) : Type 0 where
   pub retired : w.retired ≡ true
-  pub few : length (held_of w) < 256
+  pub few : length (held_of w) < most_unacknowledged
   pub not_zero : 1 ≤ identifier
-  pub small : identifier ≤ 256
+  pub small : identifier ≤ most_unacknowledged
   pub free : ¬ Contains (identifiers (held_of w)) identifier
 
 -- what a call needs of its caller: an ending session is never attached, so after a `take_first` no `up` and no `ack` follows

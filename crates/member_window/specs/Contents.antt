@@ -1,5 +1,6 @@
 -- What a window contains, as its callers see it, and what each call makes of it.
 use Rattle.std.specs.Prelude.{◌≡◌, ℕ, min, ◌<◌, ◌≤◌, Bool, true, false, List, [], ◌∷◌, ◌++◌, length, drop, Option, Some, None, IsSomeAnd, MatchOption, All}
+use Rattle.limits.specs.Limits.{most_unacknowledged}
 use Rattle.member_window.specs.Identifiers.{identifiers, entries_without, AreDistinct}
 
 -- a window of a session: what it was sent and has not acknowledged, each item with its packet identifier
@@ -40,7 +41,7 @@ IsNextResend w None = HasQuota w → w.waiting ≡ []
 
 -- a connection begins: its Receive Maximum, cut to 256, is the quota (3.1.2.11.3, profile)
 abbrev pub after_up : {T : Type 0} → Contents T → ℕ → Contents T
-after_up w receive_maximum = record { owed = []; waiting = held_of w; quota = Some (min receive_maximum 256); retired = w.retired }
+after_up w receive_maximum = record { owed = []; waiting = held_of w; quota = Some (min receive_maximum most_unacknowledged); retired = w.retired }
 
 -- the connection ends
 abbrev pub after_down : {T : Type 0} → Contents T → Contents T
@@ -73,12 +74,12 @@ after_restore w identifier item =
 
 -- no more is owed than the quota, which is at most 256; nothing is owed while no connection is up (4.9)
 abbrev pub IsQuotaKept : {T : Type 0} → Contents T → Type 0
-IsQuotaKept w = MatchOption w.quota (w.owed ≡ []) (λ quota. (length w.owed ≤ quota) × (quota ≤ 256))
+IsQuotaKept w = MatchOption w.quota (w.owed ≡ []) (λ quota. (length w.owed ≤ quota) × (quota ≤ most_unacknowledged))
 
 -- at most 256 entries, under identifiers from 1 to 256 that differ (2.2.1, profile)
 pub record AreEntries {T : Type 0} (entries : List (ℕ × T)) : Type 0 where
-  pub few : length entries ≤ 256
-  pub in_range : All (λ entry. (1 ≤ entry.0) × (entry.0 ≤ 256)) entries
+  pub few : length entries ≤ most_unacknowledged
+  pub in_range : All (λ entry. (1 ≤ entry.0) × (entry.0 ≤ most_unacknowledged)) entries
   pub distinct : AreDistinct (identifiers entries)
 
 -- what holds of every window

@@ -1,5 +1,6 @@
 -- The marks of a session's transcript, and where they leave the session: what is held, what is owed, and the quota.
 use Rattle.std.specs.Prelude.{ℕ, min, Bool, true, false, List, [], ◌∷◌, ◌++◌, Option, Some, None}
+use Rattle.limits.specs.Limits.{most_unacknowledged}
 use Rattle.member_window.specs.Identifiers.{entries_without, identifiers_without}
 
 -- what happens to what a server has sent to a client with QoS 1, in its order
@@ -33,7 +34,7 @@ held_after_sent entries identifier true item = entries
 
 -- where one mark leads
 abbrev pub window_after : {T : Type 0} → WindowState T → Mark T → WindowState T
-window_after s (Up receive_maximum) = record { held = s.held; owed = []; quota = Some (min receive_maximum 256) }
+window_after s (Up receive_maximum) = record { held = s.held; owed = []; quota = Some (min receive_maximum most_unacknowledged) }
 window_after s (Sent identifier dup item) =
     record { held = held_after_sent s.held identifier dup item; owed = s.owed ++ identifier ∷ []; quota = s.quota }
 window_after s (Acked identifier code) =

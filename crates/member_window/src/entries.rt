@@ -1,11 +1,12 @@
 //! The entries of a window, in order of first sending, and the identifiers that none of them has.
 ghost use Rattle.std.specs.Prelude.{◌≡◌, ℕ, ◌+◌, ◌-◌, ◌<◌, ◌≤◌, [], ◌∷◌, ◌++◌, length, slice_get, nat_lt, ◌==◌, if◌then◌else◌, Some, Contains, MatchOption, IfOk};
 ghost use Rattle.std.specs.List.{remove, position, HoldsAt};
+ghost use Rattle.limits.specs.Limits.{most_unacknowledged};
 ghost use Rattle.member_window.specs.Identifiers.{identifiers, IsLeastFree};
 ghost use Rattle.member_window.specs.Calls.{lent_entry};
 
 use crate::free::FreeIdentifiers;
-use crate::window::CAPACITY;
+use limits::MOST_UNACKNOWLEDGED;
 use std::alloc::{AllocError, Global};
 use std::collections::VecDeque;
 use std::marker::Model;
@@ -42,7 +43,7 @@ impl<T> Entries<T> {
         ensures { IfOk result (λ entries. (entries.all ≡ []) × (entries.owed ≡ 0)) }
     {
         Ok(Entries {
-            held: VecDeque::with_capacity(alloc, CAPACITY)?,
+            held: VecDeque::with_capacity(alloc, MOST_UNACKNOWLEDGED)?,
             free: FreeIdentifiers::all(),
             owed: 0,
         })
@@ -79,7 +80,7 @@ impl<T> Entries<T> {
 
     /// Puts an item after the others, which are all owed, under the least free identifier, and owes it.
     pub(crate) fn push(&mut self, item: T) -> u16
-        requires few { length self.old.all < 256 }
+        requires few { length self.old.all < most_unacknowledged }
         requires owed { self.old.owed ≡ length self.old.all }
         ensures identifier { IsLeastFree (identifiers self.old.all) result }
         ensures all { self.new.all ≡ self.old.all ++ (result, item) ∷ [] }
@@ -94,9 +95,9 @@ impl<T> Entries<T> {
 
     /// Puts an item in front of the others, of which none is owed.
     pub(crate) fn push_front(&mut self, identifier: u16, item: T)
-        requires few { length self.old.all < 256 }
+        requires few { length self.old.all < most_unacknowledged }
         requires owed { self.old.owed ≡ 0 }
-        requires in_range { (1 ≤ identifier) × (identifier ≤ 256) }
+        requires in_range { (1 ≤ identifier) × (identifier ≤ most_unacknowledged) }
         requires free { ¬ Contains (identifiers self.old.all) identifier }
         ensures all { self.new.all ≡ (identifier, item) ∷ self.old.all }
         ensures owed { self.new.owed ≡ self.old.owed }

@@ -29,4 +29,4 @@ pub mod laws;
 mod window;
 
 pub use error::WindowError;
-pub use window::{CAPACITY, Window};
+pub use window::Window;

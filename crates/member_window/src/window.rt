@@ -3,15 +3,13 @@ ghost use Rattle.std.specs.Prelude.{◌≡◌, ◌↔◌, ℕ, false, [], length
 
 use crate::entries::Entries;
 use crate::error::WindowError;
+use limits::MOST_UNACKNOWLEDGED;
 use std::alloc::Global;
 use std::marker::Model;
 
-/// How many items a window keeps: 256. It is also the greatest quota and the greatest packet
-/// identifier that a window gives (profile).
-pub const CAPACITY: usize = 256;
-
-/// What one session was sent with QoS 1 and has not acknowledged: up to [`CAPACITY`] items, in
-/// order of first sending, each under a packet identifier of its own from 1 to 256.
+/// What one session was sent with QoS 1 and has not acknowledged: up to [`MOST_UNACKNOWLEDGED`] items, in
+/// order of first sending, each under a packet identifier of its own from 1 to 256. That is also the
+/// greatest quota.
 ///
 /// Contracts see a window as `Contents`: the entries that are *owed*, which were sent on this
 /// connection; those that *wait*, which were sent on an earlier one and are sent again first; the
@@ -51,7 +49,7 @@ impl<T> Window<T> {
     ghost use Rattle.member_window.specs.Loan.{EndsAs};
 
     /// An empty window of a new session, while no connection is up. Takes the memory for
-    /// [`CAPACITY`] items.
+    /// [`MOST_UNACKNOWLEDGED`] items.
     ///
     /// # Errors
     ///
@@ -79,7 +77,7 @@ impl<T> Window<T> {
         ensures begun { self.new ≡ after_up self.old receive_maximum }
         ensures sound { IsSound self.old }
     {
-        self.quota = Some(usize::from(receive_maximum).min(CAPACITY));
+        self.quota = Some(usize::from(receive_maximum).min(MOST_UNACKNOWLEDGED));
         self.entries.wait(); // every item waits again
     }
 

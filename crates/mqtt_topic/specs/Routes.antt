@@ -1,6 +1,7 @@
 -- The table of routes: which slot a share is bound to, and which slots a name is routed to (profile).
 use Rattle.std.specs.Prelude.{◌≡◌, ℕ, zero, suc, ◌+◌, ◌*◌, ◌/◌, ◌%◌, ◌<◌, ◌==◌, ◌⊎◌, bytes_eq, Bool, true, false, if◌then◌else◌, List, [], ◌∷◌, ◌++◌, length, map, position, Option, Some, None, Result, Ok, Err}
 use Rattle.std.specs.List.{AllByRecursion}
+use Rattle.limits.specs.Limits.{most_groups}
 use Rattle.mqtt_topic.specs.declared.error.TopicError.{TopicError}
 use Rattle.mqtt_topic.specs.declared.error.TopicError.TheVariants as error
 use Rattle.mqtt_topic.specs.Levels.{matches}
@@ -8,7 +9,7 @@ use Rattle.mqtt_topic.specs.Names.{Share}
 
 -- the most shares that are bound (profile)
 abbrev pub most_routes : ℕ
-most_routes = 8
+most_routes = most_groups
 
 -- the slot that a share is bound to: two shares are one where their texts are one
 abbrev pub slot_of : List ℕ → List Share → Option ℕ

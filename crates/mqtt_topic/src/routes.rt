@@ -1,17 +1,19 @@
 //! The table of routes: which share is bound to which slot.
 
 ghost use Rattle.std.specs.Prelude.{◌≡◌, [], ◌<◌, ◌≤◌, length, position, All, IfOk, IfSome};
+ghost use Rattle.limits.specs.Limits.{most_groups};
 ghost use Rattle.mqtt_topic.specs.Routes.{slot_of, routed, byte_of, sets_of, places_of, AreDistinct, BindAnswers};
 
 use crate::error::TopicError;
 use crate::share::Share;
 use crate::slots::Slots;
 use crate::topic_name::TopicName;
+use limits::MOST_GROUPS;
 use std::alloc::Global;
 use std::marker::Model;
 
 /// The most shares that are bound.
-const MOST_ROUTES: usize = 8;
+const MOST_ROUTES: usize = MOST_GROUPS as usize;
 
 /// Up to eight shares, each bound to a slot from 0 to 7 for good.
 #[derive(Debug, Drop)]
@@ -21,6 +23,7 @@ pub struct Routes {
 
 impl Model for Routes {
     ghost use Rattle.std.specs.Prelude.{List, length, ◌≤◌};
+    ghost use Rattle.limits.specs.Limits.{most_groups};
     ghost use Rattle.mqtt_topic.specs.Names.{Share};
     ghost use Rattle.mqtt_topic.specs.Routes.{AreDistinct};
 
@@ -28,7 +31,7 @@ impl Model for Routes {
 
     ghost view = { λ routes. routes.shares.items };
 
-    ghost invariant = { λ routes. (length routes.shares.items ≤ 8) × AreDistinct routes.shares.items };
+    ghost invariant = { λ routes. (length routes.shares.items ≤ most_groups) × AreDistinct routes.shares.items };
 }
 
 impl Routes {
@@ -45,7 +48,7 @@ impl Routes {
     /// bound to other shares, 206 where memory is refused; then nothing has changed.
     pub fn bind(&mut self, share: Share) -> Result<u8, TopicError>
         ensures answer { BindAnswers self.old share result self.new }
-        ensures small { IfOk result (λ slot. slot < 8) }
+        ensures small { IfOk result (λ slot. slot < most_groups) }
     {
         if let Some(slot) = self.find(&share) {
             return Ok(slot);
@@ -61,7 +64,7 @@ impl Routes {
     /// The slot that the share is bound to; `None` where it is bound to none.
     pub fn find(&self, share: &Share) -> Option<u8>
         ensures value { result ≡ slot_of share.now.text self.now }
-        ensures small { IfSome result (λ slot. slot < 8) }
+        ensures small { IfSome result (λ slot. slot < most_groups) }
     {
         let text = share.text();
         let slot = place_of(self.shares.as_slice(), text)?;
@@ -71,7 +74,7 @@ impl Routes {
     /// The bound shares, the one of slot n at place n: eight at most, and no two of one text.
     pub fn shares(&self) -> &[Share]
         ensures value { result.now ≡ self.now }
-        ensures few { length result.now ≤ 8 }
+        ensures few { length result.now ≤ most_groups }
         ensures distinct { AreDistinct result.now }
     {
         self.shares.as_slice()
@@ -80,7 +83,7 @@ impl Routes {
     /// The bound slots whose filter matches the name. It takes no memory.
     pub fn matching(&self, name: &TopicName) -> Slots
         ensures value { result ≡ places_of 0 (routed name.now self.now) }
-        ensures small { All (λ slot. slot < 8) result }
+        ensures small { All (λ slot. slot < most_groups) result }
     {
         Slots::from_byte(byte_of(self.shares.as_slice(), name))
     }
@@ -88,7 +91,7 @@ impl Routes {
 
 /// The set of the slots whose share's filter matches the name, as a byte.
 fn byte_of(shares: &[Share], name: &TopicName) -> u8
-    requires { length shares.now ≤ 8 }
+    requires { length shares.now ≤ most_groups }
     ensures value { result ≡ byte_of (routed name.now shares.now) }
     ensures bound { result < sets_of (length shares.now) }
 {

@@ -1,6 +1,7 @@
 -- Which bytes spell a packet of a client (chapter 3).
 use Rattle.std.specs.Prelude.{◌≡◌, ℕ, ◌≤◌, false, IsTrue, List, [], ◌∷◌, ◌++◌, length, Ok}
 use Rattle.std.specs.List.{flat_map}
+use Rattle.limits.specs.Limits.{most_bytes}
 use Rattle.mqtt_packet.specs.declared.packet.Packet.{Packet}
 use Rattle.mqtt_packet.specs.declared.packet.Packet.TheVariants as packets
 use Rattle.mqtt_packet.specs.declared.packet.Connect.{Connect}
@@ -101,7 +102,7 @@ SpellsBody packets.WithWill body = SpellsWithWill body
 
 -- the most bytes that a packet has in all (profile)
 abbrev pub maximum_packet_size : ℕ
-maximum_packet_size = 65536
+maximum_packet_size = most_bytes
 
 -- 2.1: the bytes are a whole packet: its header and a body of it, of at most 65,536 bytes in all
 pub record Spells (packet : Packet) (bytes : List ℕ) : Type 0 where

@@ -1,6 +1,7 @@
 -- What a desk knows, as its callers see it, and what its calls make of that.
 use Rattle.std.specs.Prelude.{◌≡◌, ℕ, ◌+◌, Bool, true, false, List, Option, Some, None, slice_get, slice_set, replicate}
 use Rattle.std.specs.FinMap as map
+use Rattle.limits.specs.Limits.{most_connections}
 use Rattle.member_window.specs.Contents.{new_contents}
 use Rattle.session_desk.specs.declared.session.Session.{Session}
 use Rattle.session_desk.specs.declared.session.Membership.TheVariants.{NotMember}
@@ -26,7 +27,7 @@ pub record Books (E P : Type 0) : Type 0 where
 
 -- a new desk's
 abbrev pub new_books : {E P : Type 0} → Books E P
-new_books = record { rows = map.empty; made = 0; assigned = 0; waits = replicate 1024 None; kicked = replicate 1024 false; free = replicate 256 None }
+new_books = record { rows = map.empty; made = 0; assigned = 0; waits = replicate most_connections None; kicked = replicate most_connections false; free = replicate 256 None }
 
 -- a new session: it ends with its connection, holds nothing, is no member, and has no Subscription Identifier
 abbrev pub new_session : {E P : Type 0} → Who → Session E P

@@ -1,5 +1,6 @@
 -- The calls of a desk: what each needs of its caller, what it answers, and what it makes of the books.
 use Rattle.std.specs.Prelude.{◌≡◌, ℕ, ◌<◌, ◌≤◌, ◌↔◌, Bool, false, List, [], ◌∷◌, length, Option, Result, IsTrue}
+use Rattle.limits.specs.Limits.{most_connections}
 use Rattle.session_desk.specs.declared.attached.Attached.{Attached}
 use Rattle.session_desk.specs.declared.error.DeskError.{DeskError}
 use Rattle.session_desk.specs.declared.newcomers.Newcomers.{Newcomers}
@@ -26,7 +27,7 @@ pub data Call (E P : Type 0) : Type 0 where
 
 -- what a call needs of its caller
 abbrev pub IsAllowed : {E P : Type 0} → Call E P → Type 0
-IsAllowed (Attach newcomers request answer) = (request.connection < 1024) × (length request.client ≤ 128)
+IsAllowed (Attach newcomers request answer) = (request.connection < most_connections) × (length request.client ≤ 128)
 IsAllowed (Park session now answer) = session.window.retired ≡ false
 IsAllowed (ParkAsIs session answer) = session.window.retired ≡ false
 IsAllowed (Withdraw connection) = Unit {0}

@@ -1,6 +1,7 @@
 -- In whose hands the sessions of a desk are, by the calls that were made of it.
 use Rattle.std.specs.Prelude.{◌≡◌, ℕ, ◌+◌, ◌<◌, ◌≤◌, nat_eq, if◌then◌else◌, sum_by, Bool, true, false, List, [], ◌∷◌, Option, Some, None, Result, Ok, Err}
 use Rattle.std.specs.FinMap as map
+use Rattle.limits.specs.Limits.{most_sessions}
 use Rattle.session_desk.specs.declared.attached.Attached.{Attached}
 use Rattle.session_desk.specs.declared.attached.Attached.TheVariants.{New, Resumed, Replace, Busy}
 use Rattle.session_desk.specs.declared.error.DeskError.{DeskError}
@@ -104,7 +105,7 @@ living_in rows = sum_by (λ entry. living_row entry.1) (map.entries rows)
 -- the desk law, which every call keeps
 pub record DeskLaw {E P : Type 0} (rows : Rows E P) (made : ℕ) : Type 0 where
   -- at most 256 rows are lent or parked; those of sessions that are ending may stand beside them, up to 512 in all
-  pub few : living_in rows ≤ 256
+  pub few : living_in rows ≤ most_sessions
   pub fit : map.len rows ≤ 512
   -- each of a session that was new
   pub made_before : (number : ℕ) (row : Row E P) → HasRow rows number row → number < made

@@ -1,6 +1,7 @@
 -- Whom a desk begins a session for that has none.
 use Rattle.std.specs.Prelude.{◌≡◌, ◌⊎◌, ℕ, ◌<◌, ◌≤◌, List, Some, None, Result, Ok, Err}
 use Rattle.std.specs.FinMap as map
+use Rattle.limits.specs.Limits.{most_sessions}
 use Rattle.session_desk.specs.declared.attached.Attached.{Attached}
 use Rattle.session_desk.specs.declared.attached.Attached.TheVariants.{New, Resumed, Replace, Busy}
 use Rattle.session_desk.specs.declared.error.DeskError.{DeskError}
@@ -17,14 +18,14 @@ use Rattle.session_desk.specs.Books.{Books, new_session, after_new, after_end}
 
 -- a newcomer's session has room beside the others: there are fewer than 256 rows
 abbrev pub HasSpace : {E P : Type 0} → Newcomers → Rows E P → Type 0
-HasSpace IfRoom rows = map.len rows < 256
-HasSpace Displace rows = map.len rows < 256
+HasSpace IfRoom rows = map.len rows < most_sessions
+HasSpace Displace rows = map.len rows < most_sessions
 HasSpace Refused rows = ⊥
 
 -- there are 256 rows or more, and the session in this row goes for a newcomer's
 pub record Goes {E P : Type 0} (newcomers : Newcomers) (rows : Rows E P) (number : ℕ) (row : Row E P) (session : Session E P) : Type 0 where
   pub displaces : newcomers ≡ Displace
-  pub full : 256 ≤ map.len rows
+  pub full : most_sessions ≤ map.len rows
   pub longest : IsParkedLongest rows number row session
 
 abbrev pub OneGoes : {E P : Type 0} → Newcomers → Rows E P → ℕ → Type 0

@@ -1,9 +1,10 @@
 -- The free places of up to eight groups, 32 of each: a cell for each place, by its group's slot and its number.
 use Rattle.std.specs.Prelude.{◌≡◌, ℕ, ◌+◌, ◌*◌, ◌<◌, List, Option, Some, None, slice_get, slice_set}
+use Rattle.limits.specs.Limits.{most_members}
 
 -- where the cell of a place lies
 abbrev pub cell_at : ℕ → ℕ → ℕ
-cell_at slot number = 32 * slot + number
+cell_at slot number = most_members * slot + number
 
 -- this place is free in that cell
 abbrev pub IsFreeAt : {P : Type 0} → List (Option P) → ℕ → P → Type 0
@@ -11,12 +12,12 @@ IsFreeAt free cell place = slice_get free cell ≡ Some (Some place)
 
 -- no place of the group with this slot is free
 abbrev pub NoneFree : {P : Type 0} → List (Option P) → ℕ → Type 0
-NoneFree {P} free slot = (number : ℕ) (place : P) → number < 32 → ¬ IsFreeAt free (cell_at slot number) place
+NoneFree {P} free slot = (number : ℕ) (place : P) → number < most_members → ¬ IsFreeAt free (cell_at slot number) place
 
 -- the cell of the least free place of the group with this slot
 pub record IsLeast {P : Type 0} (free : List (Option P)) (slot cell : ℕ) : Type 0 where
   pub number : ℕ
-  pub small : number < 32
+  pub small : number < most_members
   pub at : cell ≡ cell_at slot number
   pub place : P
   pub is_free : IsFreeAt free cell place
@@ -36,7 +37,7 @@ TakesPlace {P} old cell place (Some back) new = (back ≡ place) × ((other : P)
 -- this place's own cell is this one
 pub record IsOwnCell {P : Type 0} (slot_of number_of : P → ℕ) (cell : ℕ) (place : P) : Type 0 where
   pub at : cell ≡ cell_at (slot_of place) (number_of place)
-  pub small : number_of place < 32
+  pub small : number_of place < most_members
 
 -- each free place lies in the cell of its own slot and number
 abbrev pub LieInOwnCells : {P : Type 0} → (P → ℕ) → (P → ℕ) → List (Option P) → Type 0
@@ -45,4 +46,4 @@ LieInOwnCells {P} slot_of number_of free = (cell : ℕ) (place : P) → IsFreeAt
 -- a place of the group with this slot, one of 32
 pub record IsOfSlot {P : Type 0} (slot_of number_of : P → ℕ) (slot : ℕ) (place : P) : Type 0 where
   pub its : slot_of place ≡ slot
-  pub small : number_of place < 32
+  pub small : number_of place < most_members

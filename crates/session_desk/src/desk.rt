@@ -1,6 +1,7 @@
 //! The desk.
 ghost use Rattle.std.specs.Prelude.{◌≡◌, ◌↔◌, ◌<◌, ℕ, IsTrue, MatchResult, IfSome, None, false, replicate};
 ghost use Rattle.std.specs.FinMap as map;
+ghost use Rattle.limits.specs.Limits.{most_connections};
 ghost use Rattle.session_desk.specs.declared.error.DeskError.TheVariants.{Memory};
 
 mod attaching;
@@ -8,18 +9,12 @@ mod attaching;
 use crate::drained::All;
 use crate::error::DeskError;
 use crate::marks::{is_marked, no_marks, no_waits, note};
-use crate::places::{FreePlaces, Place};
+use crate::places::{CELLS, FreePlaces, Place};
 use crate::session::Session;
 use crate::table::Table;
-use member_window::CAPACITY;
+use limits::MOST_UNACKNOWLEDGED;
 use std::alloc::Global;
 use std::marker::Model;
-
-/// How many sessions a desk keeps: 256, those among them that are lent or ending.
-pub const ROWS: usize = 256;
-
-/// How many connections may ask a desk for sessions: their numbers are below this.
-pub const CONNECTIONS: usize = 1_024;
 
 /// Who has which session of a broker.
 pub struct Desk<E, P: Place> {
@@ -60,8 +55,8 @@ impl<E, P: Place> Desk<E, P> {
     ghost use Rattle.session_desk.specs.Everything.{HasAll};
     ghost use Rattle.session_desk.specs.Sweeping.{Sweeps, SweepsNothing};
 
-    /// A desk without sessions and without free places. Takes the memory for [`ROWS`] rows, with a wait in each, for
-    /// what is noted of [`CONNECTIONS`] connections, and for the free places of eight groups.
+    /// A desk without sessions and without free places. Takes the memory for 512 rows, twice [`MOST_SESSIONS`](limits::MOST_SESSIONS), for
+    /// a wait and a mark of each of [`MOST_CONNECTIONS`](limits::MOST_CONNECTIONS) connections, and for the free places of eight groups.
     ///
     /// # Errors
     ///
@@ -89,8 +84,8 @@ impl<E, P: Place> Desk<E, P> {
         kicked: Vec<bool>,
     ) -> Result<Desk<E, P>, DeskError>
         requires table { table ≡ record { rows = map.empty; made = 0 } }
-        requires waits { waits.items ≡ replicate 1024 None }
-        requires kicked { kicked.items ≡ replicate 1024 false }
+        requires waits { waits.items ≡ replicate most_connections None }
+        requires kicked { kicked.items ≡ replicate most_connections false }
         ensures { MatchResult result (λ desk. desk ≡ new_books) (λ error. error ≡ Memory) }
     {
         match FreePlaces::new(alloc) {
@@ -195,10 +190,10 @@ impl<E, P: Place> Desk<E, P> {
         ensures { MatchResult result (λ all. HasAll self all.places.items all.envelopes.items) (λ back. back ≡ self) }
     {
         let rows = self.table.len();
-        let Ok(mut places) = Vec::with_capacity(self.alloc, rows + ROWS) else {
+        let Ok(mut places) = Vec::with_capacity(self.alloc, rows + CELLS) else {
             return Err(self);
         };
-        let Ok(mut envelopes) = Vec::with_capacity(self.alloc, CAPACITY * rows) else {
+        let Ok(mut envelopes) = Vec::with_capacity(self.alloc, MOST_UNACKNOWLEDGED * rows) else {
             places.destroy_empty();
             return Err(self);
         };
@@ -216,7 +211,7 @@ impl<E, P: Place> Desk<E, P> {
     }
 
     /// Lends the least free place of the group with this slot: its slot is this one, and its number below
-    /// [`PLACES`](crate::PLACES). `None` is 702 [`DeskError::NoPlace`](crate::DeskError::NoPlace).
+    /// [`MOST_MEMBERS`](limits::MOST_MEMBERS). `None` is 702 [`DeskError::NoPlace`](crate::DeskError::NoPlace).
     pub fn lend_place(&mut self, slot: u8) -> Option<P>
         ensures least { (free : _) × LendsPlace self.old.free slot result free × (self.new ≡ with_free self.old free) }
         ensures own { IfSome result (IsOfSlot P.slot_of P.number_of slot) }

@@ -1,5 +1,6 @@
 //! The end of a desk: everything that it has.
 ghost use Rattle.std.specs.Prelude.{◌≡◌, ◌+◌, ◌*◌, ◌≤◌, ◌++◌, ℕ, length, map, sum_by, vec_capacity};
+ghost use Rattle.limits.specs.Limits.{most_unacknowledged};
 ghost use Rattle.member_window.specs.Contents.{held_of};
 ghost use Rattle.session_desk.specs.Rows.{session_in};
 ghost use Rattle.session_desk.specs.Everything.{items_of, place_in, place_of, free_in};
@@ -46,14 +47,14 @@ fn drain_membership<P>(membership: Membership<P>, places: &mut Vec<P>)
 /// Takes everything out of a session that the desk keeps.
 fn drain_session<E, P>(session: Session<E, P>, places: &mut Vec<P>, envelopes: &mut Vec<E>)
     requires places { length places.old.items + 1 ≤ vec_capacity places.old }
-    requires envelopes { length envelopes.old.items + 256 ≤ vec_capacity envelopes.old }
+    requires envelopes { length envelopes.old.items + most_unacknowledged ≤ vec_capacity envelopes.old }
     ensures places { places.new.items ≡ places.old.items ++ place_in session.membership }
     ensures envelopes { envelopes.new.items
         ≡ envelopes.old.items ++ map (λ entry. entry.1) (held_of session.window) }
     ensures places_room { vec_capacity places.new ≡ vec_capacity places.old }
     ensures envelopes_room { vec_capacity envelopes.new ≡ vec_capacity envelopes.old }
     ensures few_places { length places.new.items ≤ length places.old.items + 1 }
-    ensures few_envelopes { length envelopes.new.items ≤ length envelopes.old.items + 256 }
+    ensures few_envelopes { length envelopes.new.items ≤ length envelopes.old.items + most_unacknowledged }
 {
     let Session {
         identity,
@@ -71,13 +72,13 @@ fn drain_session<E, P>(session: Session<E, P>, places: &mut Vec<P>, envelopes: &
 /// Takes everything out of a row.
 fn drain_row<E, P>(row: Row<E, P>, places: &mut Vec<P>, envelopes: &mut Vec<E>)
     requires places { length places.old.items + 1 ≤ vec_capacity places.old }
-    requires envelopes { length envelopes.old.items + 256 ≤ vec_capacity envelopes.old }
+    requires envelopes { length envelopes.old.items + most_unacknowledged ≤ vec_capacity envelopes.old }
     ensures places { places.new.items ≡ places.old.items ++ place_of (session_in row.held_by) }
     ensures envelopes { envelopes.new.items ≡ envelopes.old.items ++ items_of (session_in row.held_by) }
     ensures places_room { vec_capacity places.new ≡ vec_capacity places.old }
     ensures envelopes_room { vec_capacity envelopes.new ≡ vec_capacity envelopes.old }
     ensures few_places { length places.new.items ≤ length places.old.items + 1 }
-    ensures few_envelopes { length envelopes.new.items ≤ length envelopes.old.items + 256 }
+    ensures few_envelopes { length envelopes.new.items ≤ length envelopes.old.items + most_unacknowledged }
 {
     let Row {
         client: _,
@@ -99,7 +100,7 @@ pub(crate) fn drain_rows<E, P>(
     envelopes: &mut Vec<E>,
 )
     requires places { length places.old.items + length rows.entries ≤ vec_capacity places.old }
-    requires envelopes { length envelopes.old.items + 256 * length rows.entries ≤ vec_capacity envelopes.old }
+    requires envelopes { length envelopes.old.items + most_unacknowledged * length rows.entries ≤ vec_capacity envelopes.old }
     ensures places { (measure : P → ℕ) → sum_by measure places.new.items
         ≡ sum_by measure places.old.items
         + sum_by (λ entry. sum_by measure (place_of (session_in entry.1.held_by))) rows.entries }

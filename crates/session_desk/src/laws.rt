@@ -1,6 +1,7 @@
 //! Laws: what holds of every list of calls of a desk. Each is the contract of a function that does nothing. They are
 //! stated over the definitions that the contracts of [`Desk`](crate::Desk) cite, so they are about what its methods do.
 ghost use Rattle.std.specs.Prelude.{◌≡◌, ◌↔◌, ℕ, ◌+◌, ◌<◌, nat_lt, if◌then◌else◌, ◌⊎◌, ◌≢◌, List, [], Some, Result, Ok, Err};
+ghost use Rattle.limits.specs.Limits.{most_connections, most_members};
 ghost use Rattle.session_desk.specs.AskedBack.{IsAskedBack};
 ghost use Rattle.session_desk.specs.Asking.{IsSameQuestion, HadMemory};
 ghost use Rattle.session_desk.specs.Attaching.{Attaches, Request};
@@ -61,7 +62,7 @@ pub fn very_session<E, P>()
 /// new desk, one of them answered Replace with this connection as the holder, and none after that lent a session to it.
 pub fn kicked_exactly<E, P>()
     ensures { (cell : P → ℕ) (calls : List (Call E P)) (b : Books E P) (connection : ℕ) →
-        connection < 1024 → MakesAll cell new_books calls b → IsKicked b connection ↔ IsAskedBack connection calls }
+        connection < most_connections → MakesAll cell new_books calls b → IsKicked b connection ↔ IsAskedBack connection calls }
 {}
 
 /// **Names run out**: where the name `auto-99999999` was given, a client without an identifier is refused with 704, and nothing
@@ -94,15 +95,15 @@ pub fn one_answer_law<E, P>()
 {}
 
 /// **A free place lies in the cell of its own slot and number**: at a new desk, and after each call where it was so before and a place
-/// that is handed in has a number below [`PLACES`](crate::PLACES), as [`Place::number`] says. So two free places of a group have distinct
+/// that is handed in has a number below [`MOST_MEMBERS`](limits::MOST_MEMBERS), as [`Place::number`] says. So two free places of a group have distinct
 /// numbers.
 pub fn own_cells_law<E, P: Place>()
     ensures kept { (calls : List (Call E P)) (b : Books E P) →
         MakesAll (λ place. cell_at (P.slot_of place) (P.number_of place)) new_books calls b →
-        AllGoIn (λ session. IfMember (λ place. P.number_of place < 32) session.membership) (λ place. P.number_of place < 32) calls → LieInOwnCells P.slot_of P.number_of b.free }
+        AllGoIn (λ session. IfMember (λ place. P.number_of place < most_members) session.membership) (λ place. P.number_of place < most_members) calls → LieInOwnCells P.slot_of P.number_of b.free }
     ensures onward { (call : Call E P) (old new : Books E P) →
         Makes (λ place. cell_at (P.slot_of place) (P.number_of place)) old call new →
-        GoesIn (λ session. IfMember (λ place. P.number_of place < 32) session.membership) (λ place. P.number_of place < 32) call →
+        GoesIn (λ session. IfMember (λ place. P.number_of place < most_members) session.membership) (λ place. P.number_of place < most_members) call →
         LieInOwnCells P.slot_of P.number_of old.free → LieInOwnCells P.slot_of P.number_of new.free }
     ensures apart { (b : Books E P) → LieInOwnCells P.slot_of P.number_of b.free → (cell other : ℕ) (place another : P) →
         IsFreeAt b.free cell place → IsFreeAt b.free other another → P.slot_of place ≡ P.slot_of another →

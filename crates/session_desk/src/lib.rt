@@ -28,10 +28,10 @@ mod sweeping;
 mod table;
 
 pub use attached::Attached;
-pub use desk::{CONNECTIONS, Desk, ROWS};
+pub use desk::Desk;
 pub use drained::All;
 pub use error::DeskError;
 pub use newcomers::Newcomers;
-pub use places::{PLACES, Place, SLOTS};
+pub use places::Place;
 pub use rule::Rule;
-pub use session::{Expiry, Identity, Membership, Session};
+pub use session::{Identity, Membership, Session, SessionExpiry};

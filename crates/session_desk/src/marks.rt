@@ -1,21 +1,23 @@
 //! What a desk notes of each connection.
 ghost use Rattle.std.specs.Prelude.{◌≡◌, ◌↔◌, IfOk, IsTrue, replicate, None, Some, true, false, slice_get, slice_set};
+ghost use Rattle.limits.specs.Limits.{most_connections};
 
+use limits::MOST_CONNECTIONS;
 use std::alloc::{AllocError, Global};
 
 /// How many connections there are.
-const ALL: usize = 1_024;
+const ALL: usize = MOST_CONNECTIONS as usize;
 
 /// No connection waits.
 pub(crate) fn no_waits(alloc: Global) -> Result<Vec<Option<u64>>, AllocError>
-    ensures { IfOk result (λ notes. notes.items ≡ replicate 1024 None) }
+    ensures { IfOk result (λ notes. notes.items ≡ replicate most_connections None) }
 {
     Ok(vec![in alloc; None; ALL]?)
 }
 
 /// No connection is marked.
 pub(crate) fn no_marks(alloc: Global) -> Result<Vec<bool>, AllocError>
-    ensures { IfOk result (λ notes. notes.items ≡ replicate 1024 false) }
+    ensures { IfOk result (λ notes. notes.items ≡ replicate most_connections false) }
 {
     Ok(vec![in alloc; false; ALL]?)
 }

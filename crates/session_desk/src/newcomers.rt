@@ -3,7 +3,7 @@
 /// What a desk does for a client that has no session there.
 #[derive(Clone, Copy, Debug, PartialEq, Eq)]
 pub enum Newcomers {
-    /// It begins one where there are fewer than [`ROWS`](crate::ROWS) rows.
+    /// It begins one where there are fewer than [`MOST_SESSIONS`](limits::MOST_SESSIONS) rows.
     IfRoom,
     /// It does so too; and where there are as many rows, in the place of an idle session, which ends: one that is parked, holds nothing, and has no place in a
     /// group. Of several that is the one that has been parked longest.

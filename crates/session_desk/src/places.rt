@@ -1,21 +1,17 @@
 //! The free places of the groups.
 ghost use Rattle.std.specs.Prelude.{◌≡◌, ℕ, ◌+◌, ◌<◌, ◌≤◌, ◌↔◌, sum_by, vec_capacity, IfOk, IfSome, IsTrue, MatchOption, None, Some, length, slice_get, slice_set, replicate};
+ghost use Rattle.limits.specs.Limits.{most_groups, most_members};
 ghost use Rattle.session_desk.specs.Everything.{free_in};
 ghost use Rattle.session_desk.specs.Places.{cell_at, IsLeast, IsOfSlot, NoneFree, LendsPlace, TakesPlace};
 
 use crate::drained::drain_cells;
 use crate::session::Membership;
+use limits::{MOST_GROUPS, MOST_MEMBERS};
 use std::alloc::{AllocError, Global};
 use std::marker::Model;
 
-/// How many groups have places.
-pub const SLOTS: u8 = 8;
-
-/// How many places a group has.
-pub const PLACES: u8 = 32;
-
-/// How many cells there are, one for each place.
-const CELLS: usize = 256;
+/// How many cells there are, one for each place of each group.
+pub(crate) const CELLS: usize = MOST_GROUPS as usize * MOST_MEMBERS as usize;
 
 /// A place of a member in a group, which tells its group's slot and its own number.
 pub trait Place {
@@ -25,15 +21,15 @@ pub trait Place {
     /// Its number in the group.
     ghost number_of: { Self → ℕ };
 
-    /// The slot of its group, below [`SLOTS`].
+    /// The slot of its group, below [`MOST_GROUPS`].
     fn slot(&self) -> u8
         ensures value { result ≡ slot_of self.now }
-        ensures small { result < 8 };
+        ensures small { result < most_groups };
 
-    /// Its number in the group, below [`PLACES`].
+    /// Its number in the group, below [`MOST_MEMBERS`].
     fn number(&self) -> u8
         ensures value { result ≡ number_of self.now }
-        ensures small { result < 32 };
+        ensures small { result < most_members };
 }
 
 /// The places that nobody has, each in the cell of its own slot and number.
@@ -91,7 +87,7 @@ impl<P: Place> FreePlaces<P> {
     fn least(&self, slot: u8) -> Option<usize>
         ensures { MatchOption result (NoneFree self.now slot) (IsLeast self.now slot) }
     {
-        'numbers: for number in 0..PLACES {
+        'numbers: for number in 0..MOST_MEMBERS {
             let cell = cell_of(slot, number);
             if let Some(Some(_)) = self.cells.get(cell) {
                 return Some(cell);
@@ -105,7 +101,7 @@ impl<P: Place> FreePlaces<P> {
 fn cell_of(slot: u8, number: u8) -> usize
     ensures { result ≡ cell_at slot number }
 {
-    usize::from(PLACES) * usize::from(slot) + usize::from(number)
+    usize::from(MOST_MEMBERS) * usize::from(slot) + usize::from(number)
 }
 
 impl<P: Place> FreePlaces<P> {

@@ -52,7 +52,7 @@ impl Identity {
 
 /// When a session ends by time (3.1.2.11.2).
 #[derive(Clone, Copy, Debug, PartialEq, Eq)]
-pub struct Expiry {
+pub struct SessionExpiry {
     /// The Session Expiry Interval in seconds: with 0 the session ends with its connection, and with `u32::MAX` it never
     /// ends by time.
     pub seconds: u32,
@@ -60,11 +60,11 @@ pub struct Expiry {
     pub parked: Option<u64>,
 }
 
-impl Expiry {
+impl SessionExpiry {
     ghost use Rattle.session_desk.specs.Sessions.{IsOver, parked_from};
 
     /// That of a session which ends with its connection and was never parked.
-    pub const NONE: Expiry = Expiry {
+    pub const NONE: SessionExpiry = SessionExpiry {
         seconds: 0,
         parked: None,
     };
@@ -84,7 +84,7 @@ impl Expiry {
         ensures { (now : ℕ) → IsOver self.now now → result ≤ now }
     {
         match self.parked {
-            Some(parked) if self.seconds != Expiry::NEVER => {
+            Some(parked) if self.seconds != SessionExpiry::NEVER => {
                 parked.saturating_add(1_000 * u64::from(self.seconds))
             }
             _ => u64::MAX,
@@ -99,7 +99,7 @@ impl Expiry {
         match self.parked {
             None => false,
             Some(parked) => {
-                self.seconds != Expiry::NEVER
+                self.seconds != SessionExpiry::NEVER
                     && now >= parked
                     && now - parked >= 1_000 * u64::from(self.seconds)
             }
@@ -125,7 +125,7 @@ pub struct Session<E, P> {
     /// Who it is.
     pub identity: Identity,
     /// When it ends by time.
-    pub expiry: Expiry,
+    pub expiry: SessionExpiry,
     /// What it was sent and has not acknowledged.
     pub window: Window<E>,
     /// Its place in a group, if it has one.
@@ -147,7 +147,7 @@ impl<E, P> Session<E, P> {
     {
         Session {
             identity,
-            expiry: Expiry::NONE,
+            expiry: SessionExpiry::NONE,
             window,
             membership: Membership::NotMember,
             subscription: None,

@@ -1,5 +1,6 @@
 //! The rows of a desk, by number and by client.
 ghost use Rattle.std.specs.Prelude.{◌≡◌, ℕ, ◌+◌, ◌<◌, ◌≤◌, None, Some, IsTrue, ◌↔◌, IfOk, OnOk, OnErr, MatchOption, nat_eq, true, ◌*◌, length, sum_by, vec_capacity};
+ghost use Rattle.limits.specs.Limits.{most_unacknowledged};
 ghost use Rattle.session_desk.specs.Everything.{items_of, place_of};
 ghost use Rattle.session_desk.specs.Rows.{session_in};
 ghost use Rattle.std.specs.Option.{option_copied};
@@ -355,7 +356,7 @@ impl<E, P> Table<E, P> {
     /// Takes everything out of the rows, and ends the table.
     pub(crate) fn drain(self, places: &mut Vec<P>, envelopes: &mut Vec<E>)
         requires places { length places.old.items + map.len self.rows ≤ vec_capacity places.old }
-        requires envelopes { length envelopes.old.items + 256 * map.len self.rows ≤ vec_capacity envelopes.old }
+        requires envelopes { length envelopes.old.items + most_unacknowledged * map.len self.rows ≤ vec_capacity envelopes.old }
         ensures places { (measure : P → ℕ) → sum_by measure places.new.items
             ≡ sum_by measure places.old.items
             + sum_by (λ entry. sum_by measure (place_of (session_in entry.1.held_by))) (map.entries self.rows) }

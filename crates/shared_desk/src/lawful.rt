@@ -1,5 +1,6 @@
 //! A desk whose sessions have out at their places what they hold, and whose keeper knows all calls that were made of it.
 ghost use Rattle.std.specs.Prelude.{◌≡◌, ◌<◌, ◌≤◌, ◌++◌, ◌↔◌, ℕ, [], ◌∷◌, true, length, IfOk, IfSome, IsTrue};
+ghost use Rattle.limits.specs.Limits.{most_connections};
 ghost use mathlib.Core.List.{IsPrefix};
 ghost use Rattle.group_jobs.specs.Stamps.{Held};
 ghost use Rattle.session_desk.specs.Attaching.{Request, asked};
@@ -84,7 +85,7 @@ impl<P: HoldingPlace, D: HistoryName> LawfulDesk<P, D> {
     ) -> Result<Attached<Envelope, P>, DeskError>
         ghost request: { Request }
         requires asked { request ≡ asked connection client.now clean now }
-        requires known { connection < 1024 }
+        requires known { connection < most_connections }
         requires short { length client.now ≤ 128 }
         ensures ready { IfOk result (IsReady P.has_out) }
         ensures told { AddsCall P.has_out P.slot_of P.number_of me.old (Attach newcomers request result) me.new }

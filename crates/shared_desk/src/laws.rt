@@ -1,6 +1,7 @@
 //! Laws of a history: what holds of all calls that a thread knows of, whoever made them. Each is the contract of a function that does nothing, over the definitions
 //! that the contracts of [`SharedDesk`](crate::SharedDesk) cite.
 ghost use Rattle.std.specs.Prelude.{◌≡◌, ℕ, ◌+◌, ◌<◌, ◌≤◌, true, List, [], ◌∷◌, ◌++◌, Some, Result, IfOk};
+ghost use Rattle.limits.specs.Limits.{most_connections};
 ghost use mathlib.Core.List.{IsPrefix};
 ghost use Rattle.group_jobs.specs.Stamps.{Held};
 ghost use Rattle.session_desk.specs.AskedBack.{IsAskedBack};
@@ -75,6 +76,6 @@ pub fn very_place<P: HoldingPlace>()
 /// **Who is kicked was asked**, whichever threads call: one of the calls before answered Replace with this connection as the holder, and none after that lent a
 /// session to it.
 pub fn kicked_was_asked<P: HoldingPlace>()
-    ensures { (before after : List (Call Held P)) (connection : ℕ) → connection < 1024 →
+    ensures { (before after : List (Call Held P)) (connection : ℕ) → connection < most_connections →
         IsHistory P.has_out P.slot_of P.number_of (before ++ Kicked connection true ∷ after) → IsAskedBack connection before }
 {}

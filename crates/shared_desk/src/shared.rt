@@ -1,5 +1,6 @@
 //! The desk behind a lock, and how it is opened.
 ghost use Rattle.std.specs.Prelude.{◌≡◌, ◌<◌, ◌≤◌, ◌-◌, ◌⊎◌, [], false, true, All, length, reverse, Some, None, IfOk, IfSome};
+ghost use Rattle.limits.specs.Limits.{most_connections};
 ghost use mathlib.Core.List.{IsPrefix};
 ghost use Rattle.group_jobs.specs.Stamps.{Held};
 ghost use Rattle.session_desk.specs.Attaching.{asked};
@@ -19,7 +20,8 @@ use bytes::Bytes;
 use call_history::{HistoryName, OpenedHistory};
 use conn_supply::HoldingPlace;
 use group_jobs::Envelope;
-use session_desk::{Attached, CONNECTIONS, Desk, DeskError, Newcomers, Session};
+use limits::MOST_CONNECTIONS;
+use session_desk::{Attached, Desk, DeskError, Newcomers, Session};
 use std::alloc::Global;
 use std::marker::Model;
 use std::sync::atomic::Ordering::SeqCst;
@@ -148,7 +150,7 @@ impl<P: HoldingPlace, D: HistoryName> SharedDesk<P, D> {
         clean: bool,
         now: u64,
     ) -> Result<Attached<Envelope, P>, DeskError>
-        requires known { connection < 1024 }
+        requires known { connection < most_connections }
         requires short { length client.now ≤ 128 }
         ensures ready { IfOk result (IsReady P.has_out) }
         ensures told { AddsCall P.has_out P.slot_of P.number_of me.old (Attach newcomers (asked connection client.now clean now) result) me.new }
@@ -378,10 +380,10 @@ impl<P: HoldingPlace + Drop, D: HistoryName> SharedDesk<P, D> {
 
 /// No connection's session was asked for.
 fn no_marks(alloc: Global) -> Result<Vec<AtomicBool>, DeskError> {
-    let Ok(mut marks) = Vec::with_capacity(alloc, CONNECTIONS) else {
+    let Ok(mut marks) = Vec::with_capacity(alloc, usize::from(MOST_CONNECTIONS)) else {
         return Err(DeskError::Memory);
     };
-    for _ in 0..CONNECTIONS {
+    for _ in 0..MOST_CONNECTIONS {
         let Ok(()) = marks.push(AtomicBool::new(false)) else {
             return Err(DeskError::Memory);
         };

@@ -9,7 +9,7 @@ use Rattle.group_jobs.specs.declared.fate.Fate.{Fate}
 use Rattle.group_jobs.specs.declared.ledger.Ledger.{Ledger}
 use Rattle.group_jobs.specs.Settled.{settled_as, IsUnsettled}
 use Rattle.group_jobs.specs.Dockets.{Kept}
-use Rattle.shared_ledger.specs.declared.share.Share.{Share}
+use Rattle.shared_ledger.specs.declared.share.LedgerShare.{LedgerShare}
 use Rattle.shared_ledger.specs.Giving.{share}
 use Rattle.shared_ledger.specs.Witnesses.{SawLedger}
 
@@ -46,7 +46,7 @@ pub record GivesAll (old : GiverState) (before : Kept) (new : GiverState) (after
 
 -- nothing has changed where another had the ledger: the witness saw the queue empty at one moment of the call; nor where there was
 -- no memory
-abbrev pub Gathers : (List Ledger → List Share → Type 0) → GiverState → Kept → Result Bool JobError → GiverState → Kept → Type 0
+abbrev pub Gathers : (List Ledger → List LedgerShare → Type 0) → GiverState → Kept → Result Bool JobError → GiverState → Kept → Type 0
 Gathers saw old before (Ok true) new after = GivesAll old before new after
 Gathers saw old before (Ok false) new after = (new ≡ old) × (after ≡ before) × Held 0 (SawLedger saw (share old.parts [] old.gave))
 Gathers saw old before (Err refusal) new after = (new ≡ old) × (after ≡ before)

@@ -7,9 +7,9 @@ use Rattle.dispatch_core.specs.JobRuns.{JobRuns, count_of}
 use Rattle.group_jobs.specs.declared.fate.Fate.{Fate}
 use Rattle.group_jobs.specs.declared.ledger.Ledger.{Ledger}
 use Rattle.group_jobs.specs.Settled.{fates, settled_as}
-use Rattle.shared_ledger.specs.declared.share.Share.{Share}
+use Rattle.shared_ledger.specs.declared.share.LedgerShare.{LedgerShare}
 
-abbrev pub share : ℕ → List Ledger → List Ledger → Share
+abbrev pub share : ℕ → List Ledger → List Ledger → LedgerShare
 share parts hand gave = record { parts = parts; hand = hand; gave = gave }
 
 -- a ledger in which nothing is settled, and which has no room
@@ -28,40 +28,40 @@ abbrev pub jobs_in : Ledger → ℕ
 jobs_in ledger = sum_by (λ fate. length (settled_as fate ledger)) fates
 
 -- the parts of two, and what both have in hands and gave
-abbrev pub joined : Share → Share → Share
+abbrev pub joined : LedgerShare → LedgerShare → LedgerShare
 joined v w = share (v.parts + w.parts) (v.hand ++ w.hand) (v.gave ++ w.gave)
 
 -- of so many parts
-pub record Gives (items : List Ledger) (views : List Share) : Type 0 where
+pub record Gives (items : List Ledger) (views : List LedgerShare) : Type 0 where
   pub parts : sum_by (λ v. v.parts) views ≡ 64
   -- there is one ledger
   pub one : length items + sum_by (λ v. length v.hand) views ≡ 1
   -- who has no part gave nothing
-  pub idle : (pass : ℕ) (v : Share) → get_elem? views pass ≡ some v → v.parts ≡ 0 → v.gave ≡ []
+  pub idle : (pass : ℕ) (v : LedgerShare) → get_elem? views pass ≡ some v → v.parts ≡ 0 → v.gave ≡ []
   -- the ledger has each job, under each fate, as often as all gave it
   pub counts : (fate : Fate) (job : Job) → times_in items fate job + sum_by (λ v. times_in v.hand fate job) views ≡ sum_by (λ v. times_in v.gave fate job) views
 
 -- the queue stood so, at a moment at which some pass had this view
-pub record Stands (v : Share) (items : List Ledger) : Type 0 where
-  pub views : List Share
+pub record Stands (v : LedgerShare) (items : List Ledger) : Type 0 where
+  pub views : List LedgerShare
   pub pass : ℕ
   pub there : get_elem? views pass ≡ some v
   pub holds : Gives items views
 
 -- the ledger is in hands now
-abbrev pub TakesUp : Share → Ledger → Share → Type 0
+abbrev pub TakesUp : LedgerShare → Ledger → LedgerShare → Type 0
 TakesUp old ledger new = new ≡ share old.parts (ledger ∷ []) old.gave
 
 -- the ledger was put down as it was
-abbrev pub PutsBack : Share → Ledger → Share → Type 0
+abbrev pub PutsBack : LedgerShare → Ledger → LedgerShare → Type 0
 PutsBack old ledger new = new ≡ share old.parts [] old.gave
 
 -- a ledger has what was in hands, and this more
-abbrev pub IsGivenMore : Share → Ledger → Ledger → Type 0
+abbrev pub IsGivenMore : LedgerShare → Ledger → Ledger → Type 0
 IsGivenMore v ledger more = (fate : Fate) (job : Job) → times_in (ledger ∷ []) fate job ≡ times_in v.hand fate job + times_in (more ∷ []) fate job
 
 -- the ledger was put down with what was given more
-pub record GivesMore (old : Share) (ledger : Ledger) (new : Share) : Type 0 where
+pub record GivesMore (old : LedgerShare) (ledger : Ledger) (new : LedgerShare) : Type 0 where
   pub more : Ledger
   pub is : new ≡ share old.parts [] (old.gave ++ more ∷ [])
   pub counts : IsGivenMore old ledger more

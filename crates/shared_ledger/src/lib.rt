@@ -16,6 +16,6 @@ mod witness;
 
 pub use giver::{Giver, Holder};
 pub use queue::{Gathering, LedgerPass, LedgerQueue};
-pub use share::Share;
+pub use share::LedgerShare;
 pub use shared::SharedLedger;
 pub use witness::{LawfulLedgerWitness, LedgerWitness};

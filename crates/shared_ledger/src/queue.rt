@@ -9,7 +9,7 @@ ghost use Rattle.group_jobs.specs.declared.ledger.Ledger.{Ledger as ledger_type}
 ghost use Rattle.shared_ledger.specs.Giving.{share, joined, times_in, Stands, GivesMore, IsGivenMore};
 ghost use Rattle.shared_ledger.specs.Witnesses.{FollowsGiver, SawLedger};
 
-use crate::share::Share;
+use crate::share::LedgerShare;
 use crate::witness::{LawfulLedgerWitness, LedgerWitness};
 use crossbeam_queue::protocol::{Join, Lesson, Outcome, Protocol, Split};
 use crossbeam_queue::{Pass, RuledArrayQueue};
@@ -23,7 +23,7 @@ pub struct Gathering<W> {
     of: PhantomData<W>,
 }
 
-impl<W: LedgerWitness> Protocol<Ledger, Share> for Gathering<W> {
+impl<W: LedgerWitness> Protocol<Ledger, LedgerShare> for Gathering<W> {
     ghost use Rattle.std.specs.Prelude.{[], ◌∷◌};
     ghost use Rattle.shared_ledger.specs.Giving.{share, no_jobs, Gives};
 
@@ -32,22 +32,22 @@ impl<W: LedgerWitness> Protocol<Ledger, Share> for Gathering<W> {
     ghost first = { share 64 (no_jobs ∷ []) [] };
 }
 
-pub type LedgerQueue<W> = RuledArrayQueue<Ledger, Share, Gathering<W>, Global>;
+pub type LedgerQueue<W> = RuledArrayQueue<Ledger, LedgerShare, Gathering<W>, Global>;
 
-pub type LedgerPass = Pass<Ledger, Share>;
+pub type LedgerPass = Pass<Ledger, LedgerShare>;
 
 /// The ledger is taken up, or a look at an empty queue.
 pub struct TakingUp<W> {
     of: PhantomData<W>,
 }
 
-impl<W: LedgerWitness> Outcome<Ledger, Share> for TakingUp<W> {
+impl<W: LedgerWitness> Outcome<Ledger, LedgerShare> for TakingUp<W> {
     ghost use Rattle.shared_ledger.specs.Giving.{TakesUp};
 
     ghost then = { TakesUp };
 }
 
-impl<W: LedgerWitness> Lesson<Ledger, Share> for TakingUp<W> {
+impl<W: LedgerWitness> Lesson<Ledger, LedgerShare> for TakingUp<W> {
     ghost use Rattle.shared_ledger.specs.Witnesses.{SawLedger};
 
     ghost fact = { SawLedger W.saw_ledger };
@@ -56,7 +56,7 @@ impl<W: LedgerWitness> Lesson<Ledger, Share> for TakingUp<W> {
 /// A look at the queue.
 pub struct LookingAtLedger;
 
-impl Lesson<Ledger, Share> for LookingAtLedger {
+impl Lesson<Ledger, LedgerShare> for LookingAtLedger {
     ghost use Rattle.shared_ledger.specs.Giving.{Stands};
 
     ghost fact = { Stands };
@@ -65,13 +65,13 @@ impl Lesson<Ledger, Share> for LookingAtLedger {
 /// The ledger is put down as it was.
 pub struct PuttingBack;
 
-impl Outcome<Ledger, Share> for PuttingBack {
+impl Outcome<Ledger, LedgerShare> for PuttingBack {
     ghost use Rattle.shared_ledger.specs.Giving.{PutsBack};
 
     ghost then = { PutsBack };
 }
 
-impl Lesson<Ledger, Share> for PuttingBack {
+impl Lesson<Ledger, LedgerShare> for PuttingBack {
     ghost use Rattle.shared_ledger.specs.Giving.{Stands};
 
     ghost fact = { Stands };
@@ -80,13 +80,13 @@ impl Lesson<Ledger, Share> for PuttingBack {
 /// The ledger is put down with more in it.
 pub struct GivingMore;
 
-impl Outcome<Ledger, Share> for GivingMore {
+impl Outcome<Ledger, LedgerShare> for GivingMore {
     ghost use Rattle.shared_ledger.specs.Giving.{GivesMore};
 
     ghost then = { GivesMore };
 }
 
-impl Lesson<Ledger, Share> for GivingMore {
+impl Lesson<Ledger, LedgerShare> for GivingMore {
     ghost use Rattle.shared_ledger.specs.Giving.{Stands};
 
     ghost fact = { Stands };
@@ -95,7 +95,7 @@ impl Lesson<Ledger, Share> for GivingMore {
 /// Gives one part away.
 pub struct CutPart;
 
-impl Split<Share> for CutPart {
+impl Split<LedgerShare> for CutPart {
     ghost use Rattle.std.specs.Prelude.{◌-◌, []};
     ghost use Rattle.shared_ledger.specs.Giving.{share};
 
@@ -107,7 +107,7 @@ impl Split<Share> for CutPart {
 /// Makes a pass with no part, which gives nothing.
 pub struct CutNone;
 
-impl Split<Share> for CutNone {
+impl Split<LedgerShare> for CutNone {
     ghost use Rattle.std.specs.Prelude.{[]};
     ghost use Rattle.shared_ledger.specs.Giving.{share};
 
@@ -119,7 +119,7 @@ impl Split<Share> for CutNone {
 /// Takes in another pass, with its parts.
 pub struct TakeParts;
 
-impl Join<Share> for TakeParts {
+impl Join<LedgerShare> for TakeParts {
     ghost use Rattle.std.specs.Prelude.{[]};
     ghost use Rattle.shared_ledger.specs.Giving.{share, joined};
 

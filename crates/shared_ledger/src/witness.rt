@@ -7,10 +7,10 @@
 pub trait LedgerWitness {
     ghost use Rattle.std.specs.Prelude.{List};
     ghost use Rattle.group_jobs.specs.declared.ledger.Ledger.{Ledger};
-    ghost use Rattle.shared_ledger.specs.declared.share.Share.{Share};
+    ghost use Rattle.shared_ledger.specs.declared.share.LedgerShare.{LedgerShare};
 
     /// It saw this in the queue, when the passes knew this.
-    ghost saw_ledger: { List Ledger → List Share → Type 0 };
+    ghost saw_ledger: { List Ledger → List LedgerShare → Type 0 };
 }
 
 /// A witness that follows each step of each pass, from the opening on. The calls that open a ledger, share it out and end it

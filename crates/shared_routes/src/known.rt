@@ -1,5 +1,6 @@
 //! What a worker knows of the table.
 ghost use Rattle.std.specs.Prelude.{◌≡◌, ◌<◌, ◌≤◌, ◌+◌, ◌∷◌, ◌++◌, [], true, false, bytes_eq, length, map, take, slice_get, position, All, Some, None, IfOk, IfSome, MatchOption, MatchResult};
+ghost use Rattle.limits.specs.Limits.{most_groups};
 ghost use Rattle.mqtt_topic.specs.Names.{Share as share_type};
 ghost use Rattle.mqtt_topic.specs.Routes.{slot_of, routed, byte_of, sets_of, places_of};
 ghost use Rattle.shared_routes.specs.Known.{AreFirst, Learns, Grows, PublishesTo, IsBoundBehind, BindAnswers, DeclareAnswers};
@@ -25,6 +26,7 @@ pub struct KnownRoutes<'a> {
 
 impl<'a> Model for KnownRoutes<'a> {
     ghost use Rattle.std.specs.Prelude.{◌≡◌, ◌≤◌, length, map, vec_capacity};
+    ghost use Rattle.limits.specs.Limits.{most_groups};
     ghost use Rattle.shared_routes.specs.Cells.{names_of, known_of};
     ghost use Rattle.shared_routes.specs.Known.{KnownState, AreFirst};
 
@@ -37,7 +39,7 @@ impl<'a> Model for KnownRoutes<'a> {
     } };
 
     ghost invariant = { λ known. AreFirst (map (λ share. share.now) known.seen.items) (known_of known.cells.items)
-        × (length known.cells.items ≡ 8) × (length known.seen.items ≤ 8) × (8 ≤ vec_capacity known.seen) };
+        × (length known.cells.items ≡ most_groups) × (length known.seen.items ≤ most_groups) × (most_groups ≤ vec_capacity known.seen) };
 }
 
 impl<'a> KnownRoutes<'a> {
@@ -72,7 +74,7 @@ impl<'a> KnownRoutes<'a> {
         ensures grows { Grows self.old self.new }
         ensures more { result ≡ true → length self.new.shares ≡ length self.old.shares + 1 }
         ensures all { result ≡ false → self.new.told ≡ self.new.shares }
-        ensures few { length self.new.shares ≤ 8 }
+        ensures few { length self.new.shares ≤ most_groups }
     {
         if self.seen.len() == MOST_ROUTES {
             return false;
@@ -128,7 +130,7 @@ impl<'a> KnownRoutes<'a> {
     /// The slot that the share is bound to, as far as is known.
     pub fn find(&self, share: &Share) -> Option<u8>
         ensures value { result ≡ slot_of share.now.text self.now.shares }
-        ensures small { IfSome result (λ slot. slot < 8) }
+        ensures small { IfSome result (λ slot. slot < most_groups) }
     {
         let slot = place_of(self.seen.as_slice(), share.text())?;
         Some(slot as u8)
@@ -137,7 +139,7 @@ impl<'a> KnownRoutes<'a> {
     /// The bound slots whose filter matches the name, as far as is known. It takes no memory.
     pub fn matching(&self, name: &TopicName) -> Slots
         ensures value { result ≡ places_of 0 (routed name.now self.now.shares) }
-        ensures small { All (λ slot. slot < 8) result }
+        ensures small { All (λ slot. slot < most_groups) result }
     {
         Slots::from_byte(byte_of(self.seen.as_slice(), name))
     }
@@ -157,7 +159,7 @@ impl<'a> KnownRoutes<'a> {
     pub fn bind(&mut self, alloc: Global, share: Share) -> Result<u8, BindError>
         ensures answer { BindAnswers self.old.table.new_shares self.old share result self.new }
         ensures grows { Grows self.old self.new }
-        ensures small { IfOk result (λ slot. slot < 8) }
+        ensures small { IfOk result (λ slot. slot < most_groups) }
     {
         match self.new_shares {
             NewShares::Bound => self.declare(alloc, share),
@@ -174,7 +176,7 @@ impl<'a> KnownRoutes<'a> {
     pub fn declare(&mut self, alloc: Global, share: Share) -> Result<u8, BindError>
         ensures answer { DeclareAnswers self.old share result self.new }
         ensures grows { Grows self.old self.new }
-        ensures small { IfOk result (λ slot. slot < 8) }
+        ensures small { IfOk result (λ slot. slot < most_groups) }
     {
         if let Some(slot) = self.find(&share) {
             return Ok(slot);
@@ -188,7 +190,7 @@ impl<'a> KnownRoutes<'a> {
         requires { slot_of share.value.text self.old.shares ≡ None }
         ensures answer { IsBoundBehind self.old share.value result self.new }
         ensures grows { Grows self.old self.new }
-        ensures small { IfSome result (λ slot. slot < 8) }
+        ensures small { IfSome result (λ slot. slot < most_groups) }
     {
         let slot = self.seen.len();
         if slot == MOST_ROUTES {
@@ -237,7 +239,7 @@ fn place_of(seen: &[&Share], text: &[u8]) -> Option<usize>
 
 /// The set of the slots whose share's filter matches the name, as a byte.
 fn byte_of(seen: &[&Share], name: &TopicName) -> u8
-    requires { length seen.now ≤ 8 }
+    requires { length seen.now ≤ most_groups }
     ensures value { result ≡ byte_of (routed name.now (map (λ share. share.now) seen.now)) }
     ensures bound { result < sets_of (length seen.now) }
 {

@@ -1,23 +1,25 @@
 //! The cells of the table.
 ghost use Rattle.std.specs.Prelude.{◌≡◌, length, map, IfOk};
+ghost use Rattle.limits.specs.Limits.{most_groups};
 ghost use Rattle.shared_routes.specs.Cells.{unknown};
 
 use crate::cell::KnownCell;
 use crate::new_shares::NewShares;
+use limits::MOST_GROUPS;
 use mqtt_topic::Share;
 use once_cell::race::OnceBox;
 use std::alloc::{AllocError, Global};
 use std::marker::Model;
 
 /// The most shares that are bound.
-pub(crate) const MOST_ROUTES: usize = 8;
+pub(crate) const MOST_ROUTES: usize = MOST_GROUPS as usize;
 
 /// Up to eight shares, each bound to a slot from 0 to 7 for good, which threads share by reference.
 ///
 /// Contracts see it as a `RoutesId`: the names of its eight cells, which no other table has, and what it does with a share that nobody declared.
 #[derive(Drop)]
 pub struct SharedRoutes {
-    cells: [OnceBox<Share>; 8],
+    cells: [OnceBox<Share>; MOST_ROUTES],
     new_shares: NewShares,
 }
 
@@ -61,7 +63,7 @@ impl SharedRoutes {
     /// Its eight cells, to a worker that knows nothing of them.
     pub(crate) fn cells(&self, alloc: Global) -> Result<Vec<KnownCell<'_>>, AllocError>
         ensures unknown { IfOk result (λ cells. cells.items ≡ map unknown self.now.cells) }
-        ensures eight { IfOk result (λ cells. length cells.items ≡ 8) }
+        ensures eight { IfOk result (λ cells. length cells.items ≡ most_groups) }
     {
         self.cells
             .iter()

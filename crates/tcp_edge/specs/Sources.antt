@@ -6,8 +6,8 @@ use Rattle.std_io.specs.declared.io.error.Error.{Error}
 use Rattle.std_io.specs.declared.io.kind.ErrorKind.{ErrorKind}
 use Rattle.std_io.specs.declared.io.kind.ErrorKind.TheVariants as kind
 use Rattle.mio.specs.declared.net.listener.TcpListener.{TcpListener}
-use Rattle.tcp_edge.specs.declared.source.OpenError.{OpenError}
-use Rattle.tcp_edge.specs.declared.source.OpenError.TheVariants as refusal
+use Rattle.tcp_edge.specs.declared.source.ListenError.{ListenError}
+use Rattle.tcp_edge.specs.declared.source.ListenError.TheVariants as refusal
 use Rattle.transport.specs.declared.answers.Arrival.{Arrival}
 use Rattle.transport.specs.declared.answers.Arrival.TheVariants as arrival
 use Rattle.transport.specs.declared.counts.Tally.{Tally}
@@ -29,13 +29,13 @@ lacks_descriptors (Some code) = int_eq code (pos 23) || int_eq code (pos 24)
 lacks_descriptors None = false
 
 -- why a listener was not opened
-abbrev pub refusal_of : ErrorKind → OpenError
+abbrev pub refusal_of : ErrorKind → ListenError
 refusal_of kind.AddrInUse = refusal.PortInUse
 refusal_of kind.AddrNotAvailable = refusal.AddressElsewhere
 refusal_of kind.PermissionDenied = refusal.NotPermitted
 refusal_of _ = refusal.System
 
-abbrev pub open_error_of : Error → OpenError
+abbrev pub open_error_of : Error → ListenError
 open_error_of error = if lacks_descriptors (raw_os_error error) then refusal.TooFewDescriptors else refusal_of (error_kind error)
 
 -- the system is short of something for now, by the number of its error: of memory (ENOMEM, 12), of descriptors (ENFILE, 23, and EMFILE, 24), or

@@ -16,6 +16,6 @@ mod wire;
 pub use patient::{PATIENCE, Patient};
 pub use reactor::{Alarm, MOST_SOURCES, Reactor, ReactorError, Ready};
 pub use socket::Socket;
-pub use source::{OpenError, TcpSource, not_accepted};
+pub use source::{ListenError, TcpSource, not_accepted};
 pub use until::Until;
 pub use wire::{IoOutcome, Wire};

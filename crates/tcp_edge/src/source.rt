@@ -29,7 +29,7 @@ const NO_BUFFERS: i32 = 105;
 
 /// Why no listener was opened.
 #[derive(Clone, Copy, Debug, PartialEq, Eq, Error)]
-pub enum OpenError {
+pub enum ListenError {
     /// Another listener has the port.
     #[error("the port is in use")]
     PortInUse,
@@ -77,17 +77,17 @@ pub(crate) fn is_without_descriptors(error: &io::Error) -> bool
 }
 
 /// What it means that a listener was not opened.
-fn open_error(error: &io::Error) -> OpenError
+fn open_error(error: &io::Error) -> ListenError
     ensures { result ≡ open_error_of error.now }
 {
     if is_without_descriptors(error) {
-        return OpenError::TooFewDescriptors;
+        return ListenError::TooFewDescriptors;
     }
     match error.kind() {
-        ErrorKind::AddrInUse => OpenError::PortInUse,
-        ErrorKind::AddrNotAvailable => OpenError::AddressElsewhere,
-        ErrorKind::PermissionDenied => OpenError::NotPermitted,
-        _ => OpenError::System,
+        ErrorKind::AddrInUse => ListenError::PortInUse,
+        ErrorKind::AddrNotAvailable => ListenError::AddressElsewhere,
+        ErrorKind::PermissionDenied => ListenError::NotPermitted,
+        _ => ListenError::System,
     }
 }
 
@@ -136,16 +136,19 @@ impl TcpSource {
     ///
     /// # Errors
     ///
-    /// [`OpenError`].
-    pub fn open(net: &impl Net, address: Ipv4Addr, port: u16) -> Result<TcpSource, OpenError>
+    /// [`ListenError`].
+    pub fn open(net: &impl Net, address: Ipv4Addr, port: u16) -> Result<TcpSource, ListenError>
         ensures port { IfOk result (λ source. IsPortFor port source.port) }
         ensures fresh { IfOk result (λ source. source.tally ≡ record { failures = 0; arrivals = 0 }) }
     {
         let place = SocketAddr::from((address, port));
         let listener = TcpListener::bind(net, place).map_err(|e| open_error(&e))?;
-        let chosen = listener.local_addr().map_err(|_| OpenError::System)?.port();
+        let chosen = listener
+            .local_addr()
+            .map_err(|_| ListenError::System)?
+            .port();
         if chosen == 0 || port != 0 && chosen != port {
-            return Err(OpenError::System);
+            return Err(ListenError::System);
         }
         Ok(TcpSource {
             listener,

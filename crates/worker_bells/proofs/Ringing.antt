@@ -5,8 +5,8 @@ use Rattle.std.proofs.Math.ListN.{length-set}
 use Rattle.std.proofs.lemmas.Option.{slice_get_within, get_or_from_slice_get}
 use Rattle.std.proofs.lemmas.List.Sums.{sum_by-set}
 use Rattle.std.proofs.lemmas.Bool.{cases_eq}
-use Rattle.bell.specs.declared.step.Step.{Step}
-use Rattle.bell.specs.declared.step.Step.TheVariants.{Listened, Settled, Rang, Called}
+use Rattle.bell.specs.declared.step.BellStep.{BellStep}
+use Rattle.bell.specs.declared.step.BellStep.TheVariants.{Listened, Settled, Rang, Called}
 use Rattle.bell.specs.History.{wakes}
 use Rattle.bell.specs.Calls.{CalledBelow, Rings}
 use Rattle.worker_bells.specs.declared.members.Interest.{Interest}
@@ -15,7 +15,7 @@ use Rattle.worker_bells.proofs.Places.{others_stay, put_there, some_is}
 use Rattle.worker_bells.specs.Ringing.{AreRung, CallsAll, ListeningState, RingingState, HasSettledAt, IsAtSame, IsRung, RingsAt, RingsFor, woken}
 
 -- calls that found their workers idle stay
-wakes_more : (before since : List Step) → wakes before ≤ wakes (since ++ before)
+wakes_more : (before since : List BellStep) → wakes before ≤ wakes (since ++ before)
 wakes_more before [] = omega arith
 wakes_more before (Listened worker ∷ since) = wakes_more before since
 wakes_more before (Settled worker ∷ since) = wakes_more before since

@@ -1,7 +1,7 @@
 -- What a worker has of the bells of its groups: where it is idle, and where it rang.
 use Rattle.std.specs.Prelude.{◌≡◌, ◌≢◌, ◌⊎◌, ℕ, ◌+◌, ◌%◌, ◌<◌, ◌≤◌, Bool, false, not, List, [], ◌∷◌, ◌++◌, Some, None, length, slice_get, slice_set, sum_by}
-use Rattle.bell.specs.declared.step.Step.{Step}
-use Rattle.bell.specs.declared.step.Step.TheVariants.{Listened, Settled, Rang}
+use Rattle.bell.specs.declared.step.BellStep.{BellStep}
+use Rattle.bell.specs.declared.step.BellStep.TheVariants.{Listened, Settled, Rang}
 use Rattle.bell.specs.Handles.{ListenerState, RingerState, turn}
 use Rattle.bell.specs.History.{rings, wakes}
 use Rattle.bell.specs.Calls.{CalledBelow, Listens}
@@ -10,12 +10,12 @@ use Rattle.worker_bells.specs.Wishing.{IsWished}
 
 -- a worker listened at its last step
 abbrev pub HasListened : ListenerState → Type 0
-HasListened listening = (known : List Step) × (listening.history ≡ Listened listening.worker ∷ known)
+HasListened listening = (known : List BellStep) × (listening.history ≡ Listened listening.worker ∷ known)
 
 -- a worker settled at its last step, and between that and its listening before it the bell did not ring, or a multiple of 2 ^ 32 times
 pub record HasSettled (listening : ListenerState) : Type 0 where
-  pub known : List Step
-  pub since : List Step
+  pub known : List BellStep
+  pub since : List BellStep
   pub is : listening.history ≡ Settled listening.worker ∷ (since ++ Listened listening.worker ∷ known)
   pub quiet : rings since % turn ≡ 0
 
@@ -62,8 +62,8 @@ pub record IsAtSame (old new : RingingState) : Type 0 where
 
 -- the bell was rung, and each worker that was idle at the ring was called since
 pub record CallsAll (old new : RingingState) : Type 0 where
-  pub others : List Step
-  pub since : List Step
+  pub others : List BellStep
+  pub since : List BellStep
   pub is : new.ringing.history ≡ since ++ Rang ∷ (others ++ old.ringing.history)
   pub each : CalledBelow old.workers (others ++ old.ringing.history) since
 

@@ -15,7 +15,7 @@ mod shares;
 
 pub use calls::{Calls, Mailboxes};
 pub use hints::{Hint, Hints};
-pub use loads::{Average, HeldCounts, Level, Load};
+pub use loads::{Average, FillLevel, HeldCounts, Load};
 pub use members::{Held, Interest, Members};
 pub use own_bells::{SLOTS, WorkerBells, all_own_bells};
 pub use shares::{MOST_CONNECTIONS, share_of};

@@ -138,16 +138,16 @@ impl HeldCounts {
 
 /// How far messages that wait fill the members of a group, those who have the fewest first.
 #[derive(Clone, Copy, Debug, PartialEq, Eq)]
-pub struct Level {
+pub struct FillLevel {
     /// The highest number of messages that a member then has; 257 where not all messages find a member.
     pub level: u16,
     /// How many are left for members to have that many, where all have one less already.
     pub spare: u64,
 }
 
-impl Level {
+impl FillLevel {
     /// How far so many messages fill the members of other workers, and a worker's own. It goes on from one number that members have to the next, and not by one.
-    pub fn of(others: &[Load], own: &HeldCounts, count: u64) -> Level {
+    pub fn of(others: &[Load], own: &HeldCounts, count: u64) -> FillLevel {
         let mut level = least_of(others, own);
         let mut left = count;
         for _ in 0..MOST_HELD {
@@ -158,23 +158,23 @@ impl Level {
             let members = below_in(others, next).saturating_add(own.below(usize::from(next)));
             let all = members.saturating_mul(u64::from(next.saturating_sub(level)));
             if all >= left {
-                return Level::above(level, members, left);
+                return FillLevel::above(level, members, left);
             }
             left -= all;
             level = next;
         }
-        Level { level, spare: left }
+        FillLevel { level, spare: left }
     }
 
     /// How far so many messages fill so many members, all of whom have the same number.
-    fn above(held: u16, members: u64, count: u64) -> Level {
+    fn above(held: u16, members: u64, count: u64) -> FillLevel {
         let full = if members == 0 {
             0
         } else {
             count.saturating_sub(1) / members
         };
         let level = u64::from(held).saturating_add(full).saturating_add(1);
-        Level {
+        FillLevel {
             level: u16::try_from(level).unwrap_or(u16::MAX),
             spare: count.saturating_sub(full.saturating_mul(members)),
         }

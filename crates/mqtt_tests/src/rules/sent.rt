@@ -7,7 +7,7 @@ use conn_rules::{
     HandOutTerms, Overrides, accepting, disconnect, interval_left, is_discarded, is_expired, job,
     puback, refusing, suback, unsuback,
 };
-use group_jobs::{Expiry, Message};
+use group_jobs::{Message, MessageExpiry};
 use mqtt_fields::Fault;
 use mqtt_packet::{
     ConnectRefusal, MaximumPacketSize, NonEmpty, Packet, PacketIdentifier, ReasonCode,
@@ -156,15 +156,15 @@ fn messages_that_are_too_long(rt: HostRuntime) -> Result<(), Fail> {
 // A message that came at 2,000 with an interval of ten seconds, or of none, or with no interval.
 #[test]
 fn messages_that_expire(rt: HostRuntime) -> Result<(), Fail> {
-    let ten = Some(Expiry {
+    let ten = Some(MessageExpiry {
         seconds: 10,
         accepted_at: 2_000,
     });
-    let zero = Some(Expiry {
+    let zero = Some(MessageExpiry {
         seconds: 0,
         accepted_at: 2_000,
     });
-    let longest = Some(Expiry {
+    let longest = Some(MessageExpiry {
         seconds: u32::MAX,
         accepted_at: 2_000,
     });

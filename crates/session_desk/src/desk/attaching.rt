@@ -1,9 +1,10 @@
 //! What a desk answers to a connection that asks for a session.
 ghost use Rattle.std.specs.Prelude.{◌≡◌, ◌≢◌, ℕ, ◌<◌, ◌≤◌, MatchBool, length};
 ghost use Rattle.std.specs.FinMap as map;
+ghost use Rattle.limits.specs.Limits.{most_connections, most_sessions};
 ghost use Rattle.session_desk.specs.declared.error.DeskError.TheVariants.{Full, Memory, NoName};
 
-use super::{Desk, ROWS};
+use super::Desk;
 use crate::attached::Attached;
 use crate::error::DeskError;
 use crate::marks::{note, waits_for};
@@ -15,6 +16,7 @@ use crate::session::Session;
 use crate::sight::Sight;
 use crate::table::ROOM;
 use bytes::Bytes;
+use limits::MOST_SESSIONS;
 use member_window::Window;
 
 impl<E, P: Place> Desk<E, P> {
@@ -27,7 +29,7 @@ impl<E, P: Place> Desk<E, P> {
     ghost use Rattle.session_desk.specs.declared.row.Row.{Row};
 
     /// A session for a connection, as of this moment in milliseconds. `connection` is a number of the caller's, below
-    /// [`CONNECTIONS`], that tells connections apart; `clean` is Clean Start (3.1.2.4); a client without an identifier is
+    /// [`MOST_CONNECTIONS`](limits::MOST_CONNECTIONS), that tells connections apart; `clean` is Clean Start (3.1.2.4); a client without an identifier is
     /// given a name (3.1.3.1): the least from `auto-00000001` to `auto-99999999` above all that were given before whose
     /// name no row has. For a client that has no session one begins as `newcomers` has it; a client that has one gets it, or a
     /// new one in its place, however many there are.
@@ -45,7 +47,7 @@ impl<E, P: Place> Desk<E, P> {
         clean: bool,
         now: u64,
     ) -> Result<Attached<E, P>, DeskError>
-        requires known { connection < 1024 }
+        requires known { connection < most_connections }
         requires short { length client.now ≤ 128 }
         ensures { Attaches newcomers self.old (asked connection client.now clean now) result self.new }
     {
@@ -112,7 +114,7 @@ impl<E, P: Place> Desk<E, P> {
     {
         match newcomers {
             Newcomers::Refused => Room::Nowhere,
-            _ if self.table.len() < ROWS => Room::Beside,
+            _ if self.table.len() < MOST_SESSIONS => Room::Beside,
             Newcomers::IfRoom => Room::Nowhere,
             Newcomers::Displace => match self.table.parked_longest() {
                 Some(number) => Room::InPlaceOf(number),
@@ -155,7 +157,7 @@ impl<E, P: Place> Desk<E, P> {
     /// A new session of a client that has none, beside the others.
     fn open(&mut self, client: &Bytes, connection: u16) -> Result<Session<E, P>, DeskError>
         requires none { NoneLivesAs self.old.rows client.now }
-        requires room { map.len self.old.rows < 256 }
+        requires room { map.len self.old.rows < most_sessions }
         ensures { Opens self.old client.now connection result self.new }
     {
         let Ok(window) = Window::new(self.alloc) else {

@@ -4,7 +4,8 @@
 ghost use Rattle.member_window.specs.Calls.{Resends};
 
 use crate::asserting::assert_same;
-use member_window::{CAPACITY, Window};
+use limits::MOST_UNACKNOWLEDGED;
+use member_window::Window;
 use std::test::Fail;
 
 /// An item that can be neither copied nor dropped.
@@ -98,7 +99,7 @@ fn full_window(rt: HostRuntime) -> Result<(), Fail> {
     assert_same(&rt, &window.put(257), &Err(257));
     assert_same(&rt, &acknowledge(&mut window, 7), &Some(7));
     assert_same(&rt, &window.put(258), &Ok(7));
-    assert_same(&rt, &window.len(), &CAPACITY);
+    assert_same(&rt, &window.len(), &MOST_UNACKNOWLEDGED);
     Ok(())
 }
 

@@ -7,7 +7,7 @@ use std::net::{Ipv4Addr, Net, SocketAddr, TcpListener, TcpStream};
 use std::process::Abort;
 use std::test::Fail;
 use std::thread;
-use tcp_edge::{OpenError, Reactor, TcpSource};
+use tcp_edge::{ListenError, Reactor, TcpSource};
 
 /// A packet.
 const PACKET: [u8; 32] = *b"a packet of thirty-two bytes ...";
@@ -214,7 +214,7 @@ fn a_port_in_use_is_told_apart(rt: HostRuntime) -> Result<(), Fail> {
     assert_same(
         &rt,
         &TcpSource::open(&rt, Ipv4Addr::LOCALHOST, port).err(),
-        &Some(OpenError::PortInUse),
+        &Some(ListenError::PortInUse),
     );
     Ok(())
 }

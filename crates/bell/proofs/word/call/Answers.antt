@@ -1,5 +1,5 @@
 use Rattle.std.proofs.Common.{refl, arith}
-use Rattle.bell.specs.declared.step.Step.TheVariants.{Called}
+use Rattle.bell.specs.declared.step.BellStep.TheVariants.{Called}
 use Rattle.bell.proofs.Moves.{calls, of_cleared}
 use Rattle.bell.proofs.word.call.Goals as goal
 

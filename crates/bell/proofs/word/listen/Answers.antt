@@ -1,5 +1,5 @@
 use Rattle.std.proofs.Common.{refl, arith}
-use Rattle.bell.specs.declared.step.Step.TheVariants.{Listened}
+use Rattle.bell.specs.declared.step.BellStep.TheVariants.{Listened}
 use Rattle.bell.proofs.Moves.{listens, of_cleared}
 use Rattle.bell.proofs.word.listen.Goals as goal
 

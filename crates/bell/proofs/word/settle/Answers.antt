@@ -1,5 +1,5 @@
 use Rattle.std.proofs.Common.{refl, arith}
-use Rattle.bell.specs.declared.step.Step.TheVariants.{Settled}
+use Rattle.bell.specs.declared.step.BellStep.TheVariants.{Settled}
 use Rattle.bell.proofs.Moves.{settles, of_set}
 use Rattle.bell.proofs.word.settle.Goals as goal
 

@@ -1,7 +1,7 @@
 use Rattle.std.proofs.Common.{◌≡◌, ◌⊎◌, ◌≤◌, length, arith, sym, ap, ◌∙◌, subst}
 use mathlib.Core.List.{IsPrefix}
 use Rattle.atomic_table.specs.Table.{Me}
-use Rattle.call_history.specs.declared.word.View.{View}
+use Rattle.call_history.specs.declared.word.HistoryView.{HistoryView}
 use Rattle.call_history.specs.Rule.{caller, caller_of}
 use Rattle.call_history.proofs.Moves.{meets, compares, both, one_of, met_own}
 use Rattle.call_history.proofs.word.agree.Goals as goal
@@ -18,15 +18,15 @@ returns g c =
     let w = c.args.other.me.0 in
     let joined = c.join_seat.ensures.2 in
     let told = c.load.ensures.2 in
-    let known = told.0 ∙ ap (λ (m : Me (Unit {0}) (View g.row.E.Denot)). (caller (caller_of m.0), m.1)) joined in
-    let compared = subst (λ (u : View g.row.E.Denot). length u.other ≤ length u.calls → IsPrefix u.other u.calls) (ap (λ (m : Me (Unit {0}) (View g.row.E.Denot)). m.0) joined) told.1 in
+    let known = told.0 ∙ ap (λ (m : Me (Unit {0}) (HistoryView g.row.E.Denot)). (caller (caller_of m.0), m.1)) joined in
+    let compared = subst (λ (u : HistoryView g.row.E.Denot). length u.other ≤ length u.calls → IsPrefix u.other u.calls) (ap (λ (m : Me (Unit {0}) (HistoryView g.row.E.Denot)). m.0) joined) told.1 in
     let begin = both v w compared in
-    let calls = sym (ap (λ (m : Me (Unit {0}) (View g.row.E.Denot)). m.0.calls) known) in
+    let calls = sym (ap (λ (m : Me (Unit {0}) (HistoryView g.row.E.Denot)). m.0.calls) known) in
     record {
       same = c.load.ensures.0 ∙ c.join_seat.ensures.0;
       known = known;
       one = subst (λ l. (l ≡ v.calls) ⊎ (l ≡ w.calls)) calls (one_of v w);
       mine = subst (IsPrefix v.calls) calls begin.0;
       others = subst (IsPrefix w.calls) calls begin.1;
-      own = ap (λ (m : Me (Unit {0}) (View g.row.E.Denot)). m.0.own) known ∙ met_own v w _;
+      own = ap (λ (m : Me (Unit {0}) (HistoryView g.row.E.Denot)). m.0.own) known ∙ met_own v w _;
     }

@@ -1,10 +1,10 @@
 use Rattle.std.proofs.Common.{◌≡◌, ℕ, ◌≤◌, ◌+◌, ◌-◌, [], vec_len, vec_capacity}
-use Rattle.gate_word.specs.declared.step.View.{View}
+use Rattle.gate_word.specs.declared.step.GateView.{GateView}
 use Rattle.gate_word.specs.Seats.{AreNewSeats}
 use Rattle.gate_word.proofs.gate.Gate.open.Given as goal
 
 -- the view of who has still so many of a gate's seats, from this number on
-abbrev pub seats_from : ℕ → ℕ → ℕ → View
+abbrev pub seats_from : ℕ → ℕ → ℕ → GateView
 seats_from seats first count = record { seats = seats; first = first; count = count; steps = [] }
 
 abbrev pub invariant-loop : goal.invariant-loop

@@ -1,7 +1,9 @@
 //! What the broker grants a client at most, whatever it asks for, and which clients it serves (profile).
 ghost use Rattle.std.specs.Prelude.{◌≡◌, ◌<◌, ◌≤◌, ◌↔◌, IfOk, IfSome, IsSome};
+ghost use Rattle.limits.specs.Limits.{most_unacknowledged};
 ghost use Rattle.conn_rules.specs.Connecting.{inflight_alone};
 
+use limits::MOST_UNACKNOWLEDGED;
 use std::alloc::AllocError;
 use std::marker::Model;
 use users::SharedUsers;
@@ -14,12 +16,13 @@ pub struct MaxInflight {
 
 impl Model for MaxInflight {
     ghost use Rattle.std.specs.Prelude.{ℕ, ◌<◌, ◌≤◌};
+    ghost use Rattle.limits.specs.Limits.{most_unacknowledged};
 
     ghost Value = { ℕ };
 
     ghost view = { λ limit. limit.packets };
 
-    ghost invariant = { λ limit. (0 < limit.packets) × (limit.packets ≤ 256) };
+    ghost invariant = { λ limit. (0 < limit.packets) × (limit.packets ≤ most_unacknowledged) };
 
     ghost inverse = { λ number. record { packets = number } };
 }
@@ -28,9 +31,9 @@ impl MaxInflight {
     /// The limit of that number; `None` for 0, and for one above 256.
     pub fn new(packets: u16) -> Option<MaxInflight>
         ensures value { IfSome result (λ limit. limit ≡ packets) }
-        ensures found { IsSome result ↔ ((0 < packets) × (packets ≤ 256)) }
+        ensures found { IsSome result ↔ ((0 < packets) × (packets ≤ most_unacknowledged)) }
     {
-        if packets == 0 || packets > 256 {
+        if packets == 0 || usize::from(packets) > MOST_UNACKNOWLEDGED {
             return None;
         }
         Some(MaxInflight { packets })
@@ -38,15 +41,17 @@ impl MaxInflight {
 
     /// The highest limit: 256, as many as a session holds.
     pub fn most() -> MaxInflight
-        ensures { result ≡ 256 }
+        ensures { result ≡ most_unacknowledged }
     {
-        MaxInflight { packets: 256 }
+        MaxInflight {
+            packets: MOST_UNACKNOWLEDGED as u16,
+        }
     }
 
     /// Its number, from 1 to 256.
     pub fn get(self) -> u16
         ensures value { result ≡ self }
-        ensures within { (0 < result) × (result ≤ 256) }
+        ensures within { (0 < result) × (result ≤ most_unacknowledged) }
     {
         self.packets
     }
