@@ -17,7 +17,7 @@ use Rattle.client_table.specs.Clients.{ClientState, moment_of, StepOutput, Clien
 use Rattle.client_table.specs.Deliveries.{fresh_sent, Delivers}
 use Rattle.client_table.specs.Streams.{fed, Reads, FailsToReadOne, FailsToRead, Ticks, FailsToTick}
 
-pub fresh_sent-append : (said more : List StepOutput) → fresh_sent (said ++ more) ≡ fresh_sent said ++ fresh_sent more
+pub fresh_sent-append : (outputs more : List StepOutput) → fresh_sent (outputs ++ more) ≡ fresh_sent outputs ++ fresh_sent more
 fresh_sent-append [] more = refl
 fresh_sent-append (first ∷ others) more =
     ap (λ (later : List Content). fresh_contents first.packets ++ later) (fresh_sent-append others more) ∙ sym (append_assoc (fresh_contents first.packets) (fresh_sent others) (fresh_sent more))
@@ -38,8 +38,8 @@ module _ {S P : Type 0} (call : S → SupplyCall P → S → Type 0) (slot_of : 
   none_told : (old new : S) → new ≡ old → Delivers call old [] new
   none_told old new same = record { supply_calls = []; made = same; outcomes = []; handed_out = refl; told = refl }
 
-  behind_told : (old mid new : S) (said more : List StepOutput) → Delivers call old said mid → Delivers call mid more new → Delivers call old (said ++ more) new
-  behind_told old mid new said more these those =
+  behind_told : (old mid new : S) (outputs more : List StepOutput) → Delivers call old outputs mid → Delivers call mid more new → Delivers call old (outputs ++ more) new
+  behind_told old mid new outputs more these those =
       record {
         supply_calls = these.supply_calls ++ those.supply_calls;
         made = joins call these.supply_calls those.supply_calls old mid new these.made those.made;
@@ -47,17 +47,17 @@ module _ {S P : Type 0} (call : S → SupplyCall P → S → Type 0) (slot_of : 
         handed_out =
             filter_map-append hand_out_of these.supply_calls those.supply_calls ∙ (λ i. these.handed_out i ++ those.handed_out i)
             ∙ sym (hands_of_both these.outcomes those.outcomes);
-        told = fresh_sent-append said more ∙ (λ i. these.told i ++ those.told i) ∙ sym (contents_of_both these.outcomes those.outcomes);
+        told = fresh_sent-append outputs more ∙ (λ i. these.told i ++ those.told i) ∙ sym (contents_of_both these.outcomes those.outcomes);
       }
 
-  leads : (old new : S) (said : List StepOutput) → Delivers call old said new → CallsLead call old new
-  leads old new said calls = (calls.supply_calls, calls.made)
+  leads : (old new : S) (outputs : List StepOutput) → Delivers call old outputs new → CallsLead call old new
+  leads old new outputs calls = (calls.supply_calls, calls.made)
 
-  pub moves : (old new : S) (client after : ClientState P) (now : ℕ) (input : Input) (said : StepOutput) → ClientSteps call slot_of old client now input said after new
-      → Delivers call old (said ∷ []) new
-  moves old new client after now input said moved =
-      let calls = stepped call slot_of old new client.conn.number (moment_of client now) client.conn.phase after.conn.phase input said.packets said.next moved.stepped in
-      record { supply_calls = calls.supply_calls; made = calls.made; outcomes = calls.outcomes; handed_out = calls.handed_out; told = append-nil (fresh_contents said.packets) ∙ calls.hands }
+  pub moves : (old new : S) (client after : ClientState P) (now : ℕ) (input : Input) (output : StepOutput) → ClientSteps call slot_of old client now input output after new
+      → Delivers call old (output ∷ []) new
+  moves old new client after now input output moved =
+      let calls = stepped call slot_of old new client.conn.number (moment_of client now) client.conn.phase after.conn.phase input output.packets output.next moved.stepped in
+      record { supply_calls = calls.supply_calls; made = calls.made; outcomes = calls.outcomes; handed_out = calls.handed_out; told = append-nil (fresh_contents output.packets) ∙ calls.hands }
 
   fails_to_move : (old new : S) (client after : ClientState P) (now : ℕ) (input : Input) → ClientFailsToStep call slot_of old client now input after new → CallsLead call old new
   fails_to_move old new client after now input fails =
@@ -68,54 +68,54 @@ module _ {S P : Type 0} (call : S → SupplyCall P → S → Type 0) (slot_of : 
   given_up old new client after now input (inl moved) = leads old new _ (moves old new client after now input moved.0 moved.1)
   given_up old new client after now input (inr fails) = fails_to_move old new client after now input fails
 
-  pub reads : (said : List StepOutput) (old new : S) (client after : ClientState P) (now : ℕ) → Reads call slot_of old client now said after new → Delivers call old said new
+  pub reads : (outputs : List StepOutput) (old new : S) (client after : ClientState P) (now : ℕ) → Reads call slot_of old client now outputs after new → Delivers call old outputs new
   reads [] old new client after now read = none_told old new read.2
-  reads (said ∷ rest) old new client after now (inl last) =
-      subst (λ more. Delivers call old (said ∷ more) new) (sym last.1) (moves old new client after now last.0.input said last.0.moved)
-  reads (said ∷ rest) old new client after now (inr more) =
-      behind_told old more.1 new (said ∷ []) rest (moves old more.1 client more.0 now _ said more.2.moved) (reads rest more.1 new more.0 after now more.3)
+  reads (outputs ∷ rest) old new client after now (inl last) =
+      subst (λ more. Delivers call old (outputs ∷ more) new) (sym last.1) (moves old new client after now last.0.input outputs last.0.moved)
+  reads (outputs ∷ rest) old new client after now (inr more) =
+      behind_told old more.1 new (outputs ∷ []) rest (moves old more.1 client more.0 now _ outputs more.2.moved) (reads rest more.1 new more.0 after now more.3)
 
   fails_to_read_one : (old new : S) (client after : ClientState P) (now : ℕ) → FailsToReadOne call slot_of old client now after new → CallsLead call old new
   fails_to_read_one old new client after now (inl given) = given_up old new client after now inputs.EndOfInput given
   fails_to_read_one old new client after now (inr fails) = fails_to_move old new client after now fails.0 fails.2
 
-  pub fails_to_read : (said : List StepOutput) (old new : S) (client after : ClientState P) (now : ℕ) → FailsToRead call slot_of old client now said after new → CallsLead call old new
+  pub fails_to_read : (outputs : List StepOutput) (old new : S) (client after : ClientState P) (now : ℕ) → FailsToRead call slot_of old client now outputs after new → CallsLead call old new
   fails_to_read [] old new client after now fails = fails_to_read_one old new client after now fails
-  fails_to_read (said ∷ rest) old new client after now fails =
-      behind old fails.1 new (leads old fails.1 _ (moves old fails.1 client fails.0 now _ said fails.2.moved)) (fails_to_read rest fails.1 new fails.0 after now fails.3)
+  fails_to_read (outputs ∷ rest) old new client after now fails =
+      behind old fails.1 new (leads old fails.1 _ (moves old fails.1 client fails.0 now _ outputs fails.2.moved)) (fails_to_read rest fails.1 new fails.0 after now fails.3)
 
-  pub ticks : (said : List StepOutput) (old new : S) (client after : ClientState P) (now : ℕ) → Ticks call slot_of old client now said after new → Delivers call old said new
+  pub ticks : (outputs : List StepOutput) (old new : S) (client after : ClientState P) (now : ℕ) → Ticks call slot_of old client now outputs after new → Delivers call old outputs new
   ticks [] old new client after now ticked = absurd ticked
-  ticks (said ∷ rest) old new client after now (inl last) =
-      subst (λ more. Delivers call old (said ∷ more) new) (sym last.2) (moves old new client after now inputs.Tick said last.0)
-  ticks (said ∷ rest) old new client after now (inr more) =
-      behind_told old more.1 new (said ∷ []) rest (moves old more.1 client more.0 now inputs.Tick said more.2) (reads rest more.1 new more.0 after now more.4)
+  ticks (outputs ∷ rest) old new client after now (inl last) =
+      subst (λ more. Delivers call old (outputs ∷ more) new) (sym last.2) (moves old new client after now inputs.Tick outputs last.0)
+  ticks (outputs ∷ rest) old new client after now (inr more) =
+      behind_told old more.1 new (outputs ∷ []) rest (moves old more.1 client more.0 now inputs.Tick outputs more.2) (reads rest more.1 new more.0 after now more.4)
 
   fails_at_tick : (old new : S) (client after : ClientState P) (now : ℕ) → FailsToTick call slot_of old client now [] after new → CallsLead call old new
   fails_at_tick old new client after now (inl given) = given_up old new client after now inputs.EndOfInput given
   fails_at_tick old new client after now (inr fails) = fails_to_move old new client after now inputs.Tick fails
 
-  pub fails_to_tick : (said : List StepOutput) (old new : S) (client after : ClientState P) (now : ℕ) → FailsToTick call slot_of old client now said after new → CallsLead call old new
+  pub fails_to_tick : (outputs : List StepOutput) (old new : S) (client after : ClientState P) (now : ℕ) → FailsToTick call slot_of old client now outputs after new → CallsLead call old new
   fails_to_tick [] old new client after now fails = fails_at_tick old new client after now fails
-  fails_to_tick (said ∷ rest) old new client after now fails =
-      behind old fails.1 new (leads old fails.1 _ (moves old fails.1 client fails.0 now inputs.Tick said fails.2)) (fails_to_read rest fails.1 new fails.0 after now fails.4)
+  fails_to_tick (outputs ∷ rest) old new client after now fails =
+      behind old fails.1 new (leads old fails.1 _ (moves old fails.1 client fails.0 now inputs.Tick outputs fails.2)) (fails_to_read rest fails.1 new fails.0 after now fails.4)
 
   -- what happens to the client in a cell
   pub receives_told : (before : Option (ClientState P)) (old new : S) (now : ℕ) (piece : List ℕ) (more : List StepOutput) (after : Option (ClientState P))
       → Receives call slot_of old before now piece more (Ok tt) after new → Delivers call old more new
-  receives_told None old new now piece more after does = subst (λ said. Delivers call old said new) (sym does.0) (none_told old new does.2)
+  receives_told None old new now piece more after does = subst (λ outputs. Delivers call old outputs new) (sym does.0) (none_told old new does.2)
   receives_told (Some client) old new now piece more after does = reads more old new (fed client piece) does.0 now does.1
 
   pub ticks_told : (before : Option (ClientState P)) (old new : S) (now : ℕ) (more : List StepOutput) (after : Option (ClientState P))
       → TicksFor call slot_of old before now more (Ok tt) after new → Delivers call old more new
-  ticks_told None old new now more after does = subst (λ said. Delivers call old said new) (sym does.0) (none_told old new does.2)
+  ticks_told None old new now more after does = subst (λ outputs. Delivers call old outputs new) (sym does.0) (none_told old new does.2)
   ticks_told (Some client) old new now more after does = ticks more old new client does.0 now does.1
 
   pub ends_told : (before : Option (ClientState P)) (old new : S) (now : ℕ) (input : Input) (more : List StepOutput) (after : Option (ClientState P))
       → EndsFor call slot_of old before now input more (Ok tt) after new → Delivers call old more new
-  ends_told None old new now input more after does = subst (λ said. Delivers call old said new) (sym does.0) (none_told old new does.2)
+  ends_told None old new now input more after does = subst (λ outputs. Delivers call old outputs new) (sym does.0) (none_told old new does.2)
   ends_told (Some client) old new now input more after does =
-      subst (λ said. Delivers call old said new) (sym does.1.1) (moves old new client does.0 now input does.1.0 does.1.2)
+      subst (λ outputs. Delivers call old outputs new) (sym does.1.1) (moves old new client does.0 now input does.1.0 does.1.2)
 
   pub receives : (result : Result (Unit {0}) NoMemory) (before : Option (ClientState P)) (old new : S) (now : ℕ) (piece : List ℕ) (more : List StepOutput) (after : Option (ClientState P))
       → Receives call slot_of old before now piece more result after new → CallsLead call old new

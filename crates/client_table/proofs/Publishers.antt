@@ -12,11 +12,11 @@ use Rattle.client_table.specs.Numbers.{IsNumbered}
 use Rattle.client_table.specs.Streams.{fed, Reads, FailsToReadOne, FailsToRead, Ticks, FailsToTick}
 
 module _ {S P : Type 0} (call : S → SupplyCall P → S → Type 0) (slot_of : P → ℕ) where
-  moves : (number : ℕ) (old new : S) (client after : ClientState P) (now : ℕ) (input : Input) (said : StepOutput) → client.conn.number ≡ number
-      → ClientSteps call slot_of old client now input said after new → CallsFrom call number old new
-  moves number old new client after now input said is moved =
+  moves : (number : ℕ) (old new : S) (client after : ClientState P) (now : ℕ) (input : Input) (output : StepOutput) → client.conn.number ≡ number
+      → ClientSteps call slot_of old client now input output after new → CallsFrom call number old new
+  moves number old new client after now input output is moved =
       subst (λ n. CallsFrom call n old new) is
-      (stepped call slot_of old new client.conn.number (moment_of client now) client.conn.phase after.conn.phase input said.packets said.next moved.stepped)
+      (stepped call slot_of old new client.conn.number (moment_of client now) client.conn.phase after.conn.phase input output.packets output.next moved.stepped)
 
   fails_to_move : (number : ℕ) (old new : S) (client after : ClientState P) (now : ℕ) (input : Input) → client.conn.number ≡ number
       → ClientFailsToStep call slot_of old client now input after new → CallsFrom call number old new
@@ -28,12 +28,12 @@ module _ {S P : Type 0} (call : S → SupplyCall P → S → Type 0) (slot_of : 
   given_up number old new client after now input is (inl moved) = moves number old new client after now input moved.0 is moved.1
   given_up number old new client after now input is (inr fails) = fails_to_move number old new client after now input is fails
 
-  reads : (said : List StepOutput) (number : ℕ) (old new : S) (client after : ClientState P) (now : ℕ) → client.conn.number ≡ number
-      → Reads call slot_of old client now said after new → CallsFrom call number old new
+  reads : (outputs : List StepOutput) (number : ℕ) (old new : S) (client after : ClientState P) (now : ℕ) → client.conn.number ≡ number
+      → Reads call slot_of old client now outputs after new → CallsFrom call number old new
   reads [] number old new client after now is read = none call number old new read.2
-  reads (said ∷ rest) number old new client after now is (inl last) = moves number old new client after now last.0.input said is last.0.moved
-  reads (said ∷ rest) number old new client after now is (inr more) =
-      behind call number old more.1 new (moves number old more.1 client more.0 now _ said is more.2.moved)
+  reads (outputs ∷ rest) number old new client after now is (inl last) = moves number old new client after now last.0.input outputs is last.0.moved
+  reads (outputs ∷ rest) number old new client after now is (inr more) =
+      behind call number old more.1 new (moves number old more.1 client more.0 now _ outputs is more.2.moved)
       (reads rest number more.1 new more.0 after now (more.2.moved.same ∙ is) more.3)
 
   fails_to_read_one : (number : ℕ) (old new : S) (client after : ClientState P) (now : ℕ) → client.conn.number ≡ number
@@ -41,19 +41,19 @@ module _ {S P : Type 0} (call : S → SupplyCall P → S → Type 0) (slot_of : 
   fails_to_read_one number old new client after now is (inl given) = given_up number old new client after now inputs.EndOfInput is given
   fails_to_read_one number old new client after now is (inr fails) = fails_to_move number old new client after now fails.0 is fails.2
 
-  fails_to_read : (said : List StepOutput) (number : ℕ) (old new : S) (client after : ClientState P) (now : ℕ) → client.conn.number ≡ number
-      → FailsToRead call slot_of old client now said after new → CallsFrom call number old new
+  fails_to_read : (outputs : List StepOutput) (number : ℕ) (old new : S) (client after : ClientState P) (now : ℕ) → client.conn.number ≡ number
+      → FailsToRead call slot_of old client now outputs after new → CallsFrom call number old new
   fails_to_read [] number old new client after now is fails = fails_to_read_one number old new client after now is fails
-  fails_to_read (said ∷ rest) number old new client after now is fails =
-      behind call number old fails.1 new (moves number old fails.1 client fails.0 now _ said is fails.2.moved)
+  fails_to_read (outputs ∷ rest) number old new client after now is fails =
+      behind call number old fails.1 new (moves number old fails.1 client fails.0 now _ outputs is fails.2.moved)
       (fails_to_read rest number fails.1 new fails.0 after now (fails.2.moved.same ∙ is) fails.3)
 
-  ticks : (said : List StepOutput) (number : ℕ) (old new : S) (client after : ClientState P) (now : ℕ) → client.conn.number ≡ number
-      → Ticks call slot_of old client now said after new → CallsFrom call number old new
+  ticks : (outputs : List StepOutput) (number : ℕ) (old new : S) (client after : ClientState P) (now : ℕ) → client.conn.number ≡ number
+      → Ticks call slot_of old client now outputs after new → CallsFrom call number old new
   ticks [] number old new client after now is ticked = absurd ticked
-  ticks (said ∷ rest) number old new client after now is (inl last) = moves number old new client after now inputs.Tick said is last.0
-  ticks (said ∷ rest) number old new client after now is (inr more) =
-      behind call number old more.1 new (moves number old more.1 client more.0 now inputs.Tick said is more.2)
+  ticks (outputs ∷ rest) number old new client after now is (inl last) = moves number old new client after now inputs.Tick outputs is last.0
+  ticks (outputs ∷ rest) number old new client after now is (inr more) =
+      behind call number old more.1 new (moves number old more.1 client more.0 now inputs.Tick outputs is more.2)
       (reads rest number more.1 new more.0 after now (more.2.same ∙ is) more.4)
 
   fails_at_tick : (number : ℕ) (old new : S) (client after : ClientState P) (now : ℕ) → client.conn.number ≡ number
@@ -61,11 +61,11 @@ module _ {S P : Type 0} (call : S → SupplyCall P → S → Type 0) (slot_of : 
   fails_at_tick number old new client after now is (inl given) = given_up number old new client after now inputs.EndOfInput is given
   fails_at_tick number old new client after now is (inr fails) = fails_to_move number old new client after now inputs.Tick is fails
 
-  fails_to_tick : (said : List StepOutput) (number : ℕ) (old new : S) (client after : ClientState P) (now : ℕ) → client.conn.number ≡ number
-      → FailsToTick call slot_of old client now said after new → CallsFrom call number old new
+  fails_to_tick : (outputs : List StepOutput) (number : ℕ) (old new : S) (client after : ClientState P) (now : ℕ) → client.conn.number ≡ number
+      → FailsToTick call slot_of old client now outputs after new → CallsFrom call number old new
   fails_to_tick [] number old new client after now is fails = fails_at_tick number old new client after now is fails
-  fails_to_tick (said ∷ rest) number old new client after now is fails =
-      behind call number old fails.1 new (moves number old fails.1 client fails.0 now inputs.Tick said is fails.2)
+  fails_to_tick (outputs ∷ rest) number old new client after now is fails =
+      behind call number old fails.1 new (moves number old fails.1 client fails.0 now inputs.Tick outputs is fails.2)
       (fails_to_read rest number fails.1 new fails.0 after now (fails.2.same ∙ is) fails.4)
 
   -- what happens to the client in a cell

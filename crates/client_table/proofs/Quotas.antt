@@ -33,9 +33,9 @@ module _ {S P : Type 0} (call : S → SupplyCall P → S → Type 0) (slot_of : 
   becomes_within : (client : ClientState P) (after : Option (ClientState P)) → after ≡ kept client → IsWithin client → IsCellWithin after
   becomes_within client after is within = subst IsCellWithin (sym is) (kept_within_as client.conn.phase client within)
 
-  moves : (old new : S) (client after : ClientState P) (now : ℕ) (input : Input) (said : StepOutput) → ClientSteps call slot_of old client now input said after new → IsWithin client → IsWithin after
-  moves old new client after now input said moved within =
-      stays client.conn.number (moment_of client now) client.conn.phase after.conn.phase input said.packets said.next old new moved.stepped within
+  moves : (old new : S) (client after : ClientState P) (now : ℕ) (input : Input) (output : StepOutput) → ClientSteps call slot_of old client now input output after new → IsWithin client → IsWithin after
+  moves old new client after now input output moved within =
+      stays client.conn.number (moment_of client now) client.conn.phase after.conn.phase input output.packets output.next old new moved.stepped within
 
   fails_to_move : (old new : S) (client after : ClientState P) (now : ℕ) (input : Input) → ClientFailsToStep call slot_of old client now input after new → IsWithin after
   fails_to_move old new client after now input fails = subst Holds (sym fails.over) over
@@ -44,29 +44,29 @@ module _ {S P : Type 0} (call : S → SupplyCall P → S → Type 0) (slot_of : 
   given_up old new client after now input (inl moved) within = moves old new client after now input moved.0 moved.1 within
   given_up old new client after now input (inr fails) within = fails_to_move old new client after now input fails
 
-  reads : (said : List StepOutput) (old new : S) (client after : ClientState P) (now : ℕ) → Reads call slot_of old client now said after new → IsWithin client → IsWithin after
+  reads : (outputs : List StepOutput) (old new : S) (client after : ClientState P) (now : ℕ) → Reads call slot_of old client now outputs after new → IsWithin client → IsWithin after
   reads [] old new client after now read within = subst IsWithin (sym read.1) within
-  reads (said ∷ rest) old new client after now (inl last) within = moves old new client after now last.0.input said last.0.moved within
-  reads (said ∷ rest) old new client after now (inr more) within =
-      reads rest more.1 new more.0 after now more.3 (moves old more.1 client more.0 now _ said more.2.moved within)
+  reads (outputs ∷ rest) old new client after now (inl last) within = moves old new client after now last.0.input outputs last.0.moved within
+  reads (outputs ∷ rest) old new client after now (inr more) within =
+      reads rest more.1 new more.0 after now more.3 (moves old more.1 client more.0 now _ outputs more.2.moved within)
 
-  fails_to_read : (said : List StepOutput) (old new : S) (client after : ClientState P) (now : ℕ) → FailsToRead call slot_of old client now said after new → IsWithin client → IsWithin after
+  fails_to_read : (outputs : List StepOutput) (old new : S) (client after : ClientState P) (now : ℕ) → FailsToRead call slot_of old client now outputs after new → IsWithin client → IsWithin after
   fails_to_read [] old new client after now (inl given) within = given_up old new client after now inputs.EndOfInput given within
   fails_to_read [] old new client after now (inr fails) within = fails_to_move old new client after now fails.0 fails.2
-  fails_to_read (said ∷ rest) old new client after now fails within =
-      fails_to_read rest fails.1 new fails.0 after now fails.3 (moves old fails.1 client fails.0 now _ said fails.2.moved within)
+  fails_to_read (outputs ∷ rest) old new client after now fails within =
+      fails_to_read rest fails.1 new fails.0 after now fails.3 (moves old fails.1 client fails.0 now _ outputs fails.2.moved within)
 
-  ticks : (said : List StepOutput) (old new : S) (client after : ClientState P) (now : ℕ) → Ticks call slot_of old client now said after new → IsWithin client → IsWithin after
+  ticks : (outputs : List StepOutput) (old new : S) (client after : ClientState P) (now : ℕ) → Ticks call slot_of old client now outputs after new → IsWithin client → IsWithin after
   ticks [] old new client after now ticked within = absurd ticked
-  ticks (said ∷ rest) old new client after now (inl last) within = moves old new client after now inputs.Tick said last.0 within
-  ticks (said ∷ rest) old new client after now (inr more) within =
-      reads rest more.1 new more.0 after now more.4 (moves old more.1 client more.0 now inputs.Tick said more.2 within)
+  ticks (outputs ∷ rest) old new client after now (inl last) within = moves old new client after now inputs.Tick outputs last.0 within
+  ticks (outputs ∷ rest) old new client after now (inr more) within =
+      reads rest more.1 new more.0 after now more.4 (moves old more.1 client more.0 now inputs.Tick outputs more.2 within)
 
-  fails_to_tick : (said : List StepOutput) (old new : S) (client after : ClientState P) (now : ℕ) → FailsToTick call slot_of old client now said after new → IsWithin client → IsWithin after
+  fails_to_tick : (outputs : List StepOutput) (old new : S) (client after : ClientState P) (now : ℕ) → FailsToTick call slot_of old client now outputs after new → IsWithin client → IsWithin after
   fails_to_tick [] old new client after now (inl given) within = given_up old new client after now inputs.EndOfInput given within
   fails_to_tick [] old new client after now (inr fails) within = fails_to_move old new client after now inputs.Tick fails
-  fails_to_tick (said ∷ rest) old new client after now fails within =
-      fails_to_read rest fails.1 new fails.0 after now fails.4 (moves old fails.1 client fails.0 now inputs.Tick said fails.2 within)
+  fails_to_tick (outputs ∷ rest) old new client after now fails within =
+      fails_to_read rest fails.1 new fails.0 after now fails.4 (moves old fails.1 client fails.0 now inputs.Tick outputs fails.2 within)
 
   -- what happens to the client in a cell
   pub receives : (result : Result (Unit {0}) NoMemory) (before : Option (ClientState P)) (old new : S) (now : ℕ) (piece : List ℕ) (more : List StepOutput) (after : Option (ClientState P))

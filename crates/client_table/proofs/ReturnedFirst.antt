@@ -12,10 +12,10 @@ use Rattle.client_table.specs.Clients.{ClientState, moment_of, StepOutput, Clien
 use Rattle.client_table.specs.Streams.{fed, Reads, FailsToReadOne, FailsToRead, Ticks, FailsToTick}
 
 module _ {S P : Type 0} (call : S → SupplyCall P → S → Type 0) (slot_of : P → ℕ) where
-  moves : (old new : S) (client after : ClientState P) (now : ℕ) (input : Input) (said : StepOutput) → ClientSteps call slot_of old client now input said after new
+  moves : (old new : S) (client after : ClientState P) (now : ℕ) (input : Input) (output : StepOutput) → ClientSteps call slot_of old client now input output after new
       → CallsReturnedFirst call old new
-  moves old new client after now input said moved =
-      stepped call slot_of old new client.conn.number (moment_of client now) client.conn.phase after.conn.phase input said.packets said.next moved.stepped
+  moves old new client after now input output moved =
+      stepped call slot_of old new client.conn.number (moment_of client now) client.conn.phase after.conn.phase input output.packets output.next moved.stepped
 
   fails_to_move : (old new : S) (client after : ClientState P) (now : ℕ) (input : Input) → ClientFailsToStep call slot_of old client now input after new → CallsReturnedFirst call old new
   fails_to_move old new client after now input fails = failed call slot_of old new client.conn.number (moment_of client now) client.conn.phase input fails.failed
@@ -24,35 +24,35 @@ module _ {S P : Type 0} (call : S → SupplyCall P → S → Type 0) (slot_of : 
   given_up old new client after now input (inl moved) = moves old new client after now input moved.0 moved.1
   given_up old new client after now input (inr fails) = fails_to_move old new client after now input fails
 
-  reads : (said : List StepOutput) (old new : S) (client after : ClientState P) (now : ℕ) → Reads call slot_of old client now said after new → CallsReturnedFirst call old new
+  reads : (outputs : List StepOutput) (old new : S) (client after : ClientState P) (now : ℕ) → Reads call slot_of old client now outputs after new → CallsReturnedFirst call old new
   reads [] old new client after now read = none call old new read.2
-  reads (said ∷ rest) old new client after now (inl last) = moves old new client after now last.0.input said last.0.moved
-  reads (said ∷ rest) old new client after now (inr more) =
-      behind call old more.1 new (moves old more.1 client more.0 now _ said more.2.moved) (reads rest more.1 new more.0 after now more.3)
+  reads (outputs ∷ rest) old new client after now (inl last) = moves old new client after now last.0.input outputs last.0.moved
+  reads (outputs ∷ rest) old new client after now (inr more) =
+      behind call old more.1 new (moves old more.1 client more.0 now _ outputs more.2.moved) (reads rest more.1 new more.0 after now more.3)
 
-  ticks : (said : List StepOutput) (old new : S) (client after : ClientState P) (now : ℕ) → Ticks call slot_of old client now said after new → CallsReturnedFirst call old new
+  ticks : (outputs : List StepOutput) (old new : S) (client after : ClientState P) (now : ℕ) → Ticks call slot_of old client now outputs after new → CallsReturnedFirst call old new
   ticks [] old new client after now ticked = absurd ticked
-  ticks (said ∷ rest) old new client after now (inl last) = moves old new client after now inputs.Tick said last.0
-  ticks (said ∷ rest) old new client after now (inr more) =
-      behind call old more.1 new (moves old more.1 client more.0 now inputs.Tick said more.2) (reads rest more.1 new more.0 after now more.4)
+  ticks (outputs ∷ rest) old new client after now (inl last) = moves old new client after now inputs.Tick outputs last.0
+  ticks (outputs ∷ rest) old new client after now (inr more) =
+      behind call old more.1 new (moves old more.1 client more.0 now inputs.Tick outputs more.2) (reads rest more.1 new more.0 after now more.4)
 
   fails_to_read_one : (old new : S) (client after : ClientState P) (now : ℕ) → FailsToReadOne call slot_of old client now after new → CallsReturnedFirst call old new
   fails_to_read_one old new client after now (inl given) = given_up old new client after now inputs.EndOfInput given
   fails_to_read_one old new client after now (inr fails) = fails_to_move old new client after now fails.0 fails.2
 
-  fails_to_read : (said : List StepOutput) (old new : S) (client after : ClientState P) (now : ℕ) → FailsToRead call slot_of old client now said after new → CallsReturnedFirst call old new
+  fails_to_read : (outputs : List StepOutput) (old new : S) (client after : ClientState P) (now : ℕ) → FailsToRead call slot_of old client now outputs after new → CallsReturnedFirst call old new
   fails_to_read [] old new client after now fails = fails_to_read_one old new client after now fails
-  fails_to_read (said ∷ rest) old new client after now fails =
-      behind call old fails.1 new (moves old fails.1 client fails.0 now _ said fails.2.moved) (fails_to_read rest fails.1 new fails.0 after now fails.3)
+  fails_to_read (outputs ∷ rest) old new client after now fails =
+      behind call old fails.1 new (moves old fails.1 client fails.0 now _ outputs fails.2.moved) (fails_to_read rest fails.1 new fails.0 after now fails.3)
 
   fails_at_tick : (old new : S) (client after : ClientState P) (now : ℕ) → FailsToTick call slot_of old client now [] after new → CallsReturnedFirst call old new
   fails_at_tick old new client after now (inl given) = given_up old new client after now inputs.EndOfInput given
   fails_at_tick old new client after now (inr fails) = fails_to_move old new client after now inputs.Tick fails
 
-  fails_to_tick : (said : List StepOutput) (old new : S) (client after : ClientState P) (now : ℕ) → FailsToTick call slot_of old client now said after new → CallsReturnedFirst call old new
+  fails_to_tick : (outputs : List StepOutput) (old new : S) (client after : ClientState P) (now : ℕ) → FailsToTick call slot_of old client now outputs after new → CallsReturnedFirst call old new
   fails_to_tick [] old new client after now fails = fails_at_tick old new client after now fails
-  fails_to_tick (said ∷ rest) old new client after now fails =
-      behind call old fails.1 new (moves old fails.1 client fails.0 now inputs.Tick said fails.2) (fails_to_read rest fails.1 new fails.0 after now fails.4)
+  fails_to_tick (outputs ∷ rest) old new client after now fails =
+      behind call old fails.1 new (moves old fails.1 client fails.0 now inputs.Tick outputs fails.2) (fails_to_read rest fails.1 new fails.0 after now fails.4)
 
   -- what happens to the client in a cell
   pub receives : (result : Result (Unit {0}) NoMemory) (before : Option (ClientState P)) (old new : S) (now : ℕ) (piece : List ℕ) (more : List StepOutput) (after : Option (ClientState P))

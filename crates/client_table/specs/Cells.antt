@@ -60,7 +60,7 @@ module _ {S P : Type 0} (call : S → SupplyCall P → S → Type 0) (slot_of : 
   -- a connection ends, since its client's stream has ended or the broker closes
   abbrev pub EndsFor : S → Option (ClientState P) → ℕ → Input → List StepOutput → Result (Unit {0}) NoMemory → Option (ClientState P) → S → Type 0
   EndsFor old before now input more (Ok done) after new =
-      ToClient (λ client more client' new. (said : StepOutput) × (more ≡ said ∷ []) × ClientSteps call slot_of old client now input said client' new) old before more after new
+      ToClient (λ client more client' new. (output : StepOutput) × (more ≡ output ∷ []) × ClientSteps call slot_of old client now input output client' new) old before more after new
   EndsFor old before now input more (Err error) after new =
       ToSome (λ client more client' new. (more ≡ []) × IsGivenUp call slot_of old client now input client' new) before more after new
 

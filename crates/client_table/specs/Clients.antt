@@ -34,11 +34,11 @@ moment_of client now = max client.conn.latest now
 
 module _ {S P : Type 0} (call : S → SupplyCall P → S → Type 0) (slot_of : P → ℕ) where
   -- one step of a client's connection; what is unread is another matter
-  pub record ClientSteps (old : S) (client : ClientState P) (now : ℕ) (input : Input) (said : StepOutput) (client' : ClientState P) (new : S) : Type 0 where
-    pub told : said.connection ≡ client.conn.number
+  pub record ClientSteps (old : S) (client : ClientState P) (now : ℕ) (input : Input) (output : StepOutput) (client' : ClientState P) (new : S) : Type 0 where
+    pub told : output.connection ≡ client.conn.number
     pub same : client'.conn.number ≡ client.conn.number
     pub latest : client'.conn.latest ≡ moment_of client now
-    pub stepped : Steps call slot_of old client.conn.number client.conn.phase (moment_of client now) input said.packets said.next client'.conn.phase new
+    pub stepped : Steps call slot_of old client.conn.number client.conn.phase (moment_of client now) input output.packets output.next client'.conn.phase new
 
   -- an allocation failed in a step: nothing was written, and the connection has ended
   pub record ClientFailsToStep (old : S) (client : ClientState P) (now : ℕ) (input : Input) (client' : ClientState P) (new : S) : Type 0 where
@@ -49,4 +49,4 @@ module _ {S P : Type 0} (call : S → SupplyCall P → S → Type 0) (slot_of : 
 
   -- an allocation failed between two steps: this input ends the connection, and nothing is written of it
   abbrev pub IsGivenUp : S → ClientState P → ℕ → Input → ClientState P → S → Type 0
-  IsGivenUp old client now input client' new = ((said : StepOutput) × ClientSteps old client now input said client' new) ⊎ ClientFailsToStep old client now input client' new
+  IsGivenUp old client now input client' new = ((output : StepOutput) × ClientSteps old client now input output client' new) ⊎ ClientFailsToStep old client now input client' new

@@ -55,26 +55,26 @@ reading_behind Kicked = readings.Closed
 
 module _ {S P : Type 0} (call : S → SupplyCall P → S → Type 0) (slot_of : P → ℕ) where
   -- the packet in front is taken and stepped, and the connection goes on
-  pub record ReadsOne (old : S) (client : ClientState P) (now : ℕ) (said : StepOutput) (client' : ClientState P) (new : S) : Type 0 where
+  pub record ReadsOne (old : S) (client : ClientState P) (now : ℕ) (output : StepOutput) (client' : ClientState P) (new : S) : Type 0 where
     pub packet : Packet
     pub taken : Takes client.unread packet client'.unread
-    pub moved : ClientSteps call slot_of old client now (inputs.Packet packet) said client' new
-    pub goes : said.next ≡ Go
+    pub moved : ClientSteps call slot_of old client now (inputs.Packet packet) output client' new
+    pub goes : output.next ≡ Go
 
   -- what is in front is taken and stepped, and the connection is closed by it
-  pub record ReadsLast (old : S) (client : ClientState P) (now : ℕ) (said : StepOutput) (client' : ClientState P) (new : S) : Type 0 where
+  pub record ReadsLast (old : S) (client : ClientState P) (now : ℕ) (output : StepOutput) (client' : ClientState P) (new : S) : Type 0 where
     pub input : Input
     pub front : IsInFront client.unread input client'.unread
-    pub moved : ClientSteps call slot_of old client now input said client' new
-    pub closes : Closes input said.next
+    pub moved : ClientSteps call slot_of old client now input output client' new
+    pub closes : Closes input output.next
 
   -- all that is whole is read at one moment, each packet stepped before the next one is read: until the connection closes or waits, or
   -- nothing whole stands in front. What each step wrote, in their order
   abbrev pub Reads : S → ClientState P → ℕ → List StepOutput → ClientState P → S → Type 0
   Reads old client now [] client' new = IsRead client × (client' ≡ client) × (new ≡ old)
-  Reads old client now (said ∷ rest) client' new =
-      (ReadsLast old client now said client' new × (rest ≡ []))
-      ⊎ ((between : ClientState P) × (mid : S) × ReadsOne old client now said between mid × Reads mid between now rest client' new)
+  Reads old client now (output ∷ rest) client' new =
+      (ReadsLast old client now output client' new × (rest ≡ []))
+      ⊎ ((between : ClientState P) × (mid : S) × ReadsOne old client now output between mid × Reads mid between now rest client' new)
 
   -- an allocation failed for the next step: the connection has ended
   abbrev pub FailsToReadOne : S → ClientState P → ℕ → ClientState P → S → Type 0
@@ -85,30 +85,30 @@ module _ {S P : Type 0} (call : S → SupplyCall P → S → Type 0) (slot_of : 
   -- an allocation failed after so many steps, which are as ever
   abbrev pub FailsToRead : S → ClientState P → ℕ → List StepOutput → ClientState P → S → Type 0
   FailsToRead old client now [] client' new = FailsToReadOne old client now client' new
-  FailsToRead old client now (said ∷ rest) client' new =
-      (between : ClientState P) × (mid : S) × ReadsOne old client now said between mid × FailsToRead mid between now rest client' new
+  FailsToRead old client now (output ∷ rest) client' new =
+      (between : ClientState P) × (mid : S) × ReadsOne old client now output between mid × FailsToRead mid between now rest client' new
 
   -- time goes on: after that is read what came while the connection waited
   abbrev pub Ticks : S → ClientState P → ℕ → List StepOutput → ClientState P → S → Type 0
   Ticks old client now [] client' new = ⊥
-  Ticks old client now (said ∷ rest) client' new =
-      (ClientSteps call slot_of old client now inputs.Tick said client' new × (said.next ≢ Go) × (rest ≡ []))
-      ⊎ ((between : ClientState P) × (mid : S) × ClientSteps call slot_of old client now inputs.Tick said between mid × (said.next ≡ Go) × Reads mid between now rest client' new
+  Ticks old client now (output ∷ rest) client' new =
+      (ClientSteps call slot_of old client now inputs.Tick output client' new × (output.next ≢ Go) × (rest ≡ []))
+      ⊎ ((between : ClientState P) × (mid : S) × ClientSteps call slot_of old client now inputs.Tick output between mid × (output.next ≡ Go) × Reads mid between now rest client' new
       × (between.unread ≡ client.unread))
 
   abbrev pub FailsToTick : S → ClientState P → ℕ → List StepOutput → ClientState P → S → Type 0
   FailsToTick old client now [] client' new = IsGivenUp call slot_of old client now inputs.EndOfInput client' new ⊎ ClientFailsToStep call slot_of old client now inputs.Tick client' new
-  FailsToTick old client now (said ∷ rest) client' new =
-      (between : ClientState P) × (mid : S) × ClientSteps call slot_of old client now inputs.Tick said between mid × (said.next ≡ Go) × FailsToRead mid between now rest client' new
+  FailsToTick old client now (output ∷ rest) client' new =
+      (between : ClientState P) × (mid : S) × ClientSteps call slot_of old client now inputs.Tick output between mid × (output.next ≡ Go) × FailsToRead mid between now rest client' new
       × (between.unread ≡ client.unread)
 
   -- one last step, and what was said before and after; memory may be wanted in it or for it
   abbrev pub Leaves : S → ClientState P → ℕ → Input → List StepOutput → Result (Unit {0}) NoMemory → List StepOutput → ClientState P → S → Type 0
-  Leaves old client now input before (Ok done) after client' new = (said : StepOutput) × (after ≡ before ++ said ∷ []) × ClientSteps call slot_of old client now input said client' new
+  Leaves old client now input before (Ok done) after client' new = (output : StepOutput) × (after ≡ before ++ output ∷ []) × ClientSteps call slot_of old client now input output client' new
   Leaves old client now input before (Err error) after client' new = (after ≡ before) × IsGivenUp call slot_of old client now input client' new
 
   -- what came of reading once, and what was said before and after
   abbrev pub ReadsAs : Reading → S → ClientState P → ℕ → List StepOutput → List StepOutput → ClientState P → S → Type 0
   ReadsAs readings.Nothing old client now before after client' new = IsRead client × (client' ≡ client) × (new ≡ old) × (after ≡ before)
-  ReadsAs readings.GoesOn old client now before after client' new = (said : StepOutput) × (after ≡ before ++ said ∷ []) × ReadsOne old client now said client' new
-  ReadsAs readings.Closed old client now before after client' new = (said : StepOutput) × (after ≡ before ++ said ∷ []) × ReadsLast old client now said client' new
+  ReadsAs readings.GoesOn old client now before after client' new = (output : StepOutput) × (after ≡ before ++ output ∷ []) × ReadsOne old client now output client' new
+  ReadsAs readings.Closed old client now before after client' new = (output : StepOutput) × (after ≡ before ++ output ∷ []) × ReadsLast old client now output client' new

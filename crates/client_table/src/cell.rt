@@ -47,17 +47,17 @@ pub(crate) fn receive<P: HoldingPlace, S: Supply<P>>(
     supply: &mut S,
     now: u64,
     piece: &[u8],
-    said: &mut Vec<StepOutput>,
+    outputs: &mut Vec<StepOutput>,
 ) -> Result<(), NoMemory>
     requires visiting { S.visiting supply.old ≡ true }
-    ensures received { (more : List Output) × (said.new.items ≡ said.old.items ++ more)
+    ensures received { (more : List Output) × (outputs.new.items ≡ outputs.old.items ++ more)
         × Receives S.call P.slot_of supply.old cell.old now piece.now more result cell.new supply.new }
     ensures visiting { S.visiting supply.new ≡ S.visiting supply.old }
 {
     let Some(client) = cell else {
         return Ok(());
     };
-    let received = client.receive(supply, now, piece, said);
+    let received = client.receive(supply, now, piece, outputs);
     let_go_of_ended(cell);
     received
 }
@@ -67,17 +67,17 @@ pub(crate) fn tick<P: HoldingPlace, S: Supply<P>>(
     cell: &mut Option<Client<P>>,
     supply: &mut S,
     now: u64,
-    said: &mut Vec<StepOutput>,
+    outputs: &mut Vec<StepOutput>,
 ) -> Result<(), NoMemory>
     requires visiting { S.visiting supply.old ≡ true }
-    ensures ticked { (more : List Output) × (said.new.items ≡ said.old.items ++ more)
+    ensures ticked { (more : List Output) × (outputs.new.items ≡ outputs.old.items ++ more)
         × TicksFor S.call P.slot_of supply.old cell.old now more result cell.new supply.new }
     ensures visiting { S.visiting supply.new ≡ S.visiting supply.old }
 {
     let Some(client) = cell else {
         return Ok(());
     };
-    let ticked = client.tick(supply, now, said);
+    let ticked = client.tick(supply, now, outputs);
     let_go_of_ended(cell);
     ticked
 }
@@ -87,16 +87,16 @@ pub(crate) fn end_of_input<P: HoldingPlace, S: Supply<P>>(
     cell: &mut Option<Client<P>>,
     supply: &mut S,
     now: u64,
-    said: &mut Vec<StepOutput>,
+    outputs: &mut Vec<StepOutput>,
 ) -> Result<(), NoMemory>
-    ensures ended { (more : List Output) × (said.new.items ≡ said.old.items ++ more)
+    ensures ended { (more : List Output) × (outputs.new.items ≡ outputs.old.items ++ more)
         × EndsFor S.call P.slot_of supply.old cell.old now inputs.EndOfInput more result cell.new supply.new }
     ensures visiting { S.visiting supply.new ≡ S.visiting supply.old }
 {
     let Some(client) = cell else {
         return Ok(());
     };
-    let ended = client.end_of_input(supply, now, said);
+    let ended = client.end_of_input(supply, now, outputs);
     let_go_of_ended(cell);
     ended
 }
@@ -106,16 +106,16 @@ pub(crate) fn closing<P: HoldingPlace, S: Supply<P>>(
     cell: &mut Option<Client<P>>,
     supply: &mut S,
     now: u64,
-    said: &mut Vec<StepOutput>,
+    outputs: &mut Vec<StepOutput>,
 ) -> Result<(), NoMemory>
-    ensures closed { (more : List Output) × (said.new.items ≡ said.old.items ++ more)
+    ensures closed { (more : List Output) × (outputs.new.items ≡ outputs.old.items ++ more)
         × EndsFor S.call P.slot_of supply.old cell.old now inputs.Closing more result cell.new supply.new }
     ensures visiting { S.visiting supply.new ≡ S.visiting supply.old }
 {
     let Some(client) = cell else {
         return Ok(());
     };
-    let closed = client.closing(supply, now, said);
+    let closed = client.closing(supply, now, outputs);
     let_go_of_ended(cell);
     closed
 }

@@ -22,16 +22,16 @@ use conn_supply::{HoldingPlace, Supply};
 /// **What a client does is a list of calls**: reading its stream, a Tick, a last step, and giving it up, with memory and without. Where
 /// memory is not wanted, what these calls hand out is what the client is told for the first time, but for what is discarded.
 pub fn calls_law<P: HoldingPlace, S: Supply<P>>()
-    ensures reads { (now : ℕ) (said : List StepOutput) (client after : ClientState P) (old new : S) →
-        Reads S.call P.slot_of old client now said after new → Delivers S.call old said new }
-    ensures fails_to_read { (now : ℕ) (said : List StepOutput) (client after : ClientState P) (old new : S) →
-        FailsToRead S.call P.slot_of old client now said after new → CallsLead S.call old new }
-    ensures ticks { (now : ℕ) (said : List StepOutput) (client after : ClientState P) (old new : S) →
-        Ticks S.call P.slot_of old client now said after new → Delivers S.call old said new }
-    ensures fails_to_tick { (now : ℕ) (said : List StepOutput) (client after : ClientState P) (old new : S) →
-        FailsToTick S.call P.slot_of old client now said after new → CallsLead S.call old new }
-    ensures moves { (now : ℕ) (input : Input) (said : StepOutput) (client after : ClientState P) (old new : S) →
-        ClientSteps S.call P.slot_of old client now input said after new → Delivers S.call old (said ∷ []) new }
+    ensures reads { (now : ℕ) (outputs : List StepOutput) (client after : ClientState P) (old new : S) →
+        Reads S.call P.slot_of old client now outputs after new → Delivers S.call old outputs new }
+    ensures fails_to_read { (now : ℕ) (outputs : List StepOutput) (client after : ClientState P) (old new : S) →
+        FailsToRead S.call P.slot_of old client now outputs after new → CallsLead S.call old new }
+    ensures ticks { (now : ℕ) (outputs : List StepOutput) (client after : ClientState P) (old new : S) →
+        Ticks S.call P.slot_of old client now outputs after new → Delivers S.call old outputs new }
+    ensures fails_to_tick { (now : ℕ) (outputs : List StepOutput) (client after : ClientState P) (old new : S) →
+        FailsToTick S.call P.slot_of old client now outputs after new → CallsLead S.call old new }
+    ensures moves { (now : ℕ) (input : Input) (output : StepOutput) (client after : ClientState P) (old new : S) →
+        ClientSteps S.call P.slot_of old client now input output after new → Delivers S.call old (output ∷ []) new }
     ensures given_up { (now : ℕ) (input : Input) (client after : ClientState P) (old new : S) →
         IsGivenUp S.call P.slot_of old client now input after new → CallsLead S.call old new }
 {}

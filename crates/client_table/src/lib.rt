@@ -6,9 +6,9 @@
 //! ```
 //! let mut clients = ClientTable::new(alloc)?;
 //! clients.open(0, Opening { at: now, limits });
-//! clients.receive(&mut supply, 0, now, &piece, &mut said)?; // the packets in this piece, answered one by one
-//! clients.tick(&mut supply, 0, now, &mut said)?; // what has come for this client since
-//! clients.end_of_input(&mut supply, 0, now, &mut said)?; // its session is parked
+//! clients.receive(&mut supply, 0, now, &piece, &mut outputs)?; // the packets in this piece, answered one by one
+//! clients.tick(&mut supply, 0, now, &mut outputs)?; // what has come for this client since
+//! clients.end_of_input(&mut supply, 0, now, &mut outputs)?; // its session is parked
 //! ```
 #![tactic(auto)]
 

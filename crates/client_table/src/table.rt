@@ -74,11 +74,11 @@ impl<P: HoldingPlace> ClientTable<P> {
         number: u8,
         now: u64,
         piece: &[u8],
-        said: &mut Vec<StepOutput>,
+        outputs: &mut Vec<StepOutput>,
     ) -> Result<(), NoMemory>
         requires known { number < 64 }
         requires visiting { S.visiting supply.old ≡ true }
-        ensures received { (more : List Output) × (said.new.items ≡ said.old.items ++ more)
+        ensures received { (more : List Output) × (outputs.new.items ≡ outputs.old.items ++ more)
             × InCell self.old number
             (λ before after. Receives S.call P.slot_of supply.old before now piece.now more result after supply.new) self.new }
         ensures visiting { S.visiting supply.new ≡ S.visiting supply.old }
@@ -88,7 +88,7 @@ impl<P: HoldingPlace> ClientTable<P> {
             supply,
             now,
             piece,
-            said,
+            outputs,
         )
     }
 
@@ -102,15 +102,15 @@ impl<P: HoldingPlace> ClientTable<P> {
         supply: &mut S,
         number: u8,
         now: u64,
-        said: &mut Vec<StepOutput>,
+        outputs: &mut Vec<StepOutput>,
     ) -> Result<(), NoMemory>
         requires known { number < 64 }
         requires visiting { S.visiting supply.old ≡ true }
-        ensures ticked { (more : List Output) × (said.new.items ≡ said.old.items ++ more)
+        ensures ticked { (more : List Output) × (outputs.new.items ≡ outputs.old.items ++ more)
             × InCell self.old number (λ before after. TicksFor S.call P.slot_of supply.old before now more result after supply.new) self.new }
         ensures visiting { S.visiting supply.new ≡ S.visiting supply.old }
     {
-        cell::tick(&mut self.cells[usize::from(number)], supply, now, said)
+        cell::tick(&mut self.cells[usize::from(number)], supply, now, outputs)
     }
 
     /// A client's stream has ended, at this moment in milliseconds.
@@ -123,15 +123,15 @@ impl<P: HoldingPlace> ClientTable<P> {
         supply: &mut S,
         number: u8,
         now: u64,
-        said: &mut Vec<StepOutput>,
+        outputs: &mut Vec<StepOutput>,
     ) -> Result<(), NoMemory>
         requires { number < 64 }
-        ensures ended { (more : List Output) × (said.new.items ≡ said.old.items ++ more)
+        ensures ended { (more : List Output) × (outputs.new.items ≡ outputs.old.items ++ more)
             × InCell self.old number
             (λ before after. EndsFor S.call P.slot_of supply.old before now inputs.EndOfInput more result after supply.new) self.new }
         ensures visiting { S.visiting supply.new ≡ S.visiting supply.old }
     {
-        cell::end_of_input(&mut self.cells[usize::from(number)], supply, now, said)
+        cell::end_of_input(&mut self.cells[usize::from(number)], supply, now, outputs)
     }
 
     /// The broker closes, at this moment in milliseconds: this connection is told so, and ends.
@@ -144,15 +144,15 @@ impl<P: HoldingPlace> ClientTable<P> {
         supply: &mut S,
         number: u8,
         now: u64,
-        said: &mut Vec<StepOutput>,
+        outputs: &mut Vec<StepOutput>,
     ) -> Result<(), NoMemory>
         requires { number < 64 }
-        ensures closed { (more : List Output) × (said.new.items ≡ said.old.items ++ more)
+        ensures closed { (more : List Output) × (outputs.new.items ≡ outputs.old.items ++ more)
             × InCell self.old number
             (λ before after. EndsFor S.call P.slot_of supply.old before now inputs.Closing more result after supply.new) self.new }
         ensures visiting { S.visiting supply.new ≡ S.visiting supply.old }
     {
-        cell::closing(&mut self.cells[usize::from(number)], supply, now, said)
+        cell::closing(&mut self.cells[usize::from(number)], supply, now, outputs)
     }
 
     /// Lets go of the clients: each connection that is open ends as where the broker closes, that of the greatest number first,

@@ -23,7 +23,7 @@ reported (suc slot) one other text text' alike h k =
 module _ (lines : StepOutput → List ℕ) (setup : Setup) where
   pub one_transcript : (events : List TimedEvent) (text text' : List ℕ) → IsTranscript lines setup events text → IsTranscript lines setup events text' → text ≡ text'
   one_transcript events text text' h k =
-      let run = one_run setup events h.said k.said h.first k.first h.last k.last h.new k.new h.happens k.happens in
+      let run = one_run setup events h.outputs k.outputs h.first k.first h.last k.last h.new k.new h.happens k.happens in
       let many : length k.last.broker.routes ≡ length h.last.broker.routes = ap length (sym run.1.broker.routes) in
       let reports = reported (length h.last.broker.routes) h.last.broker k.last.broker h.reports k.reports run.1.broker h.reported (subst (λ n. ReportsFirst n k.last.broker k.reports) many k.reported) in
       h.whole ∙ (λ i. flat_map lines (run.0 i) ++ reports i) ∙ sym k.whole

@@ -16,7 +16,7 @@ use Rattle.std.specs.List.{flat_map}
 
 -- what is told of the events so far
 abbrev pub IsTextOf : (StepOutput → List ℕ) → ServerState → List TimedEvent → List ℕ → ServerState → Type 0
-IsTextOf lines old events text new = (said : List StepOutput) × (text ≡ flat_map lines said) × HappensAll old events said new
+IsTextOf lines old events text new = (outputs : List StepOutput) × (text ≡ flat_map lines outputs) × HappensAll old events outputs new
 
 pub nothing_told : (lines : StepOutput → List ℕ) (server : ServerState) (events : List TimedEvent) → IsTextOf lines server (take 0 events) [] server
 nothing_told lines server events = ([], refl, (refl, refl))

@@ -13,5 +13,5 @@ script_as forms.Events input = script_of input
 script_as forms.Client input = client_script_of input
 
 abbrev pub lines_as : Form → StepOutput → List ℕ
-lines_as forms.Events said = lines_of_output said
-lines_as forms.Client said = client_lines said
+lines_as forms.Events output = lines_of_output output
+lines_as forms.Client output = client_lines output

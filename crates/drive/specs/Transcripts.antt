@@ -35,7 +35,7 @@ next_line connection thens.Kicked = decimal connection ++ codes " kicked\n"
 
 -- what one step of a connection wrote, and where the connection ends, that
 abbrev pub lines_of_output : StepOutput → List ℕ
-lines_of_output said = flat_map (packet_line said.connection) said.packets ++ next_line said.connection said.next
+lines_of_output output = flat_map (packet_line output.connection) output.packets ++ next_line output.connection output.next
 
 -- a packet in a run of one connection: its bytes alone
 abbrev pub client_line : Packet → List ℕ
@@ -43,7 +43,7 @@ client_line packet = hex_line (written packet)
 
 -- what one step of the only connection wrote
 abbrev pub client_lines : StepOutput → List ℕ
-client_lines said = flat_map client_line said.packets
+client_lines output = flat_map client_line output.packets
 
 -- the lines of the reports of the first so many shares, in the order of their slots
 abbrev pub ReportsFirst : ℕ → Broker → List ℕ → Type 0
@@ -54,12 +54,12 @@ ReportsFirst (suc slot) b text = (earlier line : List ℕ) × ReportsFirst slot 
 pub record IsTranscript (lines : StepOutput → List ℕ) (setup : Setup) (events : List TimedEvent) (text : List ℕ) : Type 0 where
   pub first : ServerState
   pub new : IsNewServer setup first
-  pub said : List StepOutput
+  pub outputs : List StepOutput
   pub last : ServerState
-  pub happens : HappensAll first events said last
+  pub happens : HappensAll first events outputs last
   pub reports : List ℕ
   pub reported : ReportsFirst (length last.broker.routes) last.broker reports
-  pub whole : text ≡ flat_map lines said ++ reports
+  pub whole : text ≡ flat_map lines outputs ++ reports
 
 -- the transcript of the events that an input spells
 pub record IsOutput (script : Result (List TimedEvent) ℕ) (lines : StepOutput → List ℕ) (setup : Setup) (output : List ℕ) : Type 0 where

@@ -145,14 +145,14 @@ fn transcribe(
     events: &[TimedEvent],
 ) -> Result<BytesMut, RunError>
     requires { (setup : Beginning) × IsNewServer setup server.old }
-    ensures ok { IfOk result (λ text. (said : List Output) × (reports : List ℕ) × HappensAll server.old events.now said server.new
-        × (text.items ≡ flat_map (lines_as form) said ++ reports) × ReportsFirst (length server.new.broker.routes) server.new.broker reports) }
+    ensures ok { IfOk result (λ text. (outputs : List Output) × (reports : List ℕ) × HappensAll server.old events.now outputs server.new
+        × (text.items ≡ flat_map (lines_as form) outputs ++ reports) × ReportsFirst (length server.new.broker.routes) server.new.broker reports) }
     ensures err { IfErr result (λ error. error ≡ Memory) }
 {
     let mut transcript = Transcript::new(alloc);
-    let mut said = Vec::new(alloc);
+    let mut outputs = Vec::new(alloc);
     for event in events {
-        happen(form, server, event, &mut said, &mut transcript)?;
+        happen(form, server, event, &mut outputs, &mut transcript)?;
     }
     transcript.report(alloc, server)?;
     Ok(transcript.into_text())
@@ -163,7 +163,7 @@ fn happen(
     form: Form,
     server: &mut Server,
     event: &TimedEvent,
-    said: &mut Vec<StepOutput>,
+    outputs: &mut Vec<StepOutput>,
     transcript: &mut Transcript,
 ) -> Result<(), RunError>
     // Whatever is said in it can be written.
@@ -173,9 +173,9 @@ fn happen(
         × (transcript.new ≡ transcript.old ++ flat_map (lines_as form) outputs)) }
     ensures err { IfErr result (λ error. error ≡ Memory) }
 {
-    said.clear();
-    match server.happen(event.moment, &event.event, said) {
-        Ok(()) => transcript.tell(form, said),
+    outputs.clear();
+    match server.happen(event.moment, &event.event, outputs) {
+        Ok(()) => transcript.tell(form, outputs),
         Err(_) => Err(RunError::Memory),
     }
 }

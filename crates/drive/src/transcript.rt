@@ -58,12 +58,12 @@ impl Transcript {
 
     /// Adds what was said.
     #[tactic(auto, using(crate::proofs::Texts::one_more))]
-    pub(crate) fn tell(&mut self, form: Form, said: &[StepOutput]) -> Result<(), RunError>
-        requires { AllWritable said.now }
-        ensures ok { OnOk result (self.new ≡ self.old ++ flat_map (lines_as form) said.now) }
+    pub(crate) fn tell(&mut self, form: Form, outputs: &[StepOutput]) -> Result<(), RunError>
+        requires { AllWritable outputs.now }
+        ensures ok { OnOk result (self.new ≡ self.old ++ flat_map (lines_as form) outputs.now) }
         ensures err { IfErr result (λ error. error ≡ Memory) }
     {
-        for step in said {
+        for step in outputs {
             match form {
                 Form::Events => self.tell_step(step)?,
                 Form::Client => self.tell_client(step.packets())?,
@@ -73,16 +73,16 @@ impl Transcript {
     }
 
     /// Adds what one step of a connection wrote.
-    fn tell_step(&mut self, said: &StepOutput) -> Result<(), RunError>
-        requires { AllByRecursion IsWritable said.now.packets }
-        ensures ok { OnOk result (self.new ≡ self.old ++ lines_of_output said.now) }
+    fn tell_step(&mut self, output: &StepOutput) -> Result<(), RunError>
+        requires { AllByRecursion IsWritable output.now.packets }
+        ensures ok { OnOk result (self.new ≡ self.old ++ lines_of_output output.now) }
         ensures err { IfErr result (λ error. error ≡ Memory) }
     {
-        let connection = said.connection();
-        for packet in said.packets() {
+        let connection = output.connection();
+        for packet in output.packets() {
             self.tell_packet(connection, packet)?;
         }
-        self.tell_next(connection, said.next())
+        self.tell_next(connection, output.next())
     }
 
     /// Adds what the one client is sent.

@@ -52,9 +52,9 @@ fn driven(
 }
 
 /// This much is written, and after it nothing but reports.
-fn assert_said(rt: &impl Abort, output: &[u8], said: &str, name: &str) {
-    assert!(rt; output.starts_with(said.as_bytes()), "{name}");
-    let rest = &output[said.len()..];
+fn assert_begins(rt: &impl Abort, output: &[u8], expected: &str, name: &str) {
+    assert!(rt; output.starts_with(expected.as_bytes()), "{name}");
+    let rest = &output[expected.len()..];
     assert!(rt; rest.is_empty() || rest.starts_with(b"$share"), "{name}");
 }
 
@@ -68,7 +68,7 @@ fn play(rt: &impl Abort, alloc: Global, scenario: &Scenario<'_>, max_inflight: M
             Some(told) => add(rt, &mut wanted, told),
             None => {
                 let output = driven(rt, alloc, scenario, max_inflight, &events);
-                assert_said(rt, &output, &wanted, scenario.name);
+                assert_begins(rt, &output, &wanted, scenario.name);
                 add(rt, &mut events, line);
             }
         }

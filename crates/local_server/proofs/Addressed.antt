@@ -27,18 +27,18 @@ use Rattle.local_server.specs.Addressed.{AreNumbered, AreSentTo, Answers}
 
 -- a client that keeps this number, and to which all is said
 abbrev Keeps : ℕ → List StepOutput → ClientState GroupPlace → Type 0
-Keeps number said client = (client.conn.number ≡ number) × AreSentTo number said
+Keeps number outputs client = (client.conn.number ≡ number) × AreSentTo number outputs
 
 given_up : (number : ℕ) (old new : Broker) (client after : ClientState GroupPlace) (now : ℕ) (input : Input) → client.conn.number ≡ number
     → IsGivenUp Calls slot_of old client now input after new → after.conn.number ≡ number
 given_up number old new client after now input is (inl moved) = moved.1.same ∙ is
 given_up number old new client after now input is (inr fails) = fails.same ∙ is
 
-reads : (said : List StepOutput) (number : ℕ) (old new : Broker) (client after : ClientState GroupPlace) (now : ℕ) → client.conn.number ≡ number
-    → Reads Calls slot_of old client now said after new → Keeps number said after
+reads : (outputs : List StepOutput) (number : ℕ) (old new : Broker) (client after : ClientState GroupPlace) (now : ℕ) → client.conn.number ≡ number
+    → Reads Calls slot_of old client now outputs after new → Keeps number outputs after
 reads [] number old new client after now is read = (ap (λ c. c.conn.number) read.1 ∙ is, tt)
-reads (said ∷ rest) number old new client after now is (inl last) = (last.0.moved.same ∙ is, (last.0.moved.told ∙ is, subst (AreSentTo number) (sym last.1) tt))
-reads (said ∷ rest) number old new client after now is (inr more) =
+reads (outputs ∷ rest) number old new client after now is (inl last) = (last.0.moved.same ∙ is, (last.0.moved.told ∙ is, subst (AreSentTo number) (sym last.1) tt))
+reads (outputs ∷ rest) number old new client after now is (inr more) =
     let later = reads rest number more.1 new more.0 after now (more.2.moved.same ∙ is) more.3 in (later.0, (more.2.moved.told ∙ is, later.1))
 
 fails_to_read_one : (number : ℕ) (old new : Broker) (client after : ClientState GroupPlace) (now : ℕ) → client.conn.number ≡ number
@@ -46,17 +46,17 @@ fails_to_read_one : (number : ℕ) (old new : Broker) (client after : ClientStat
 fails_to_read_one number old new client after now is (inl given) = given_up number old new client after now inputs.EndOfInput is given
 fails_to_read_one number old new client after now is (inr fails) = fails.2.same ∙ is
 
-fails_to_read : (said : List StepOutput) (number : ℕ) (old new : Broker) (client after : ClientState GroupPlace) (now : ℕ) → client.conn.number ≡ number
-    → FailsToRead Calls slot_of old client now said after new → Keeps number said after
+fails_to_read : (outputs : List StepOutput) (number : ℕ) (old new : Broker) (client after : ClientState GroupPlace) (now : ℕ) → client.conn.number ≡ number
+    → FailsToRead Calls slot_of old client now outputs after new → Keeps number outputs after
 fails_to_read [] number old new client after now is fails = (fails_to_read_one number old new client after now is fails, tt)
-fails_to_read (said ∷ rest) number old new client after now is fails =
+fails_to_read (outputs ∷ rest) number old new client after now is fails =
     let later = fails_to_read rest number fails.1 new fails.0 after now (fails.2.moved.same ∙ is) fails.3 in (later.0, (fails.2.moved.told ∙ is, later.1))
 
-ticks : (said : List StepOutput) (number : ℕ) (old new : Broker) (client after : ClientState GroupPlace) (now : ℕ) → client.conn.number ≡ number
-    → Ticks Calls slot_of old client now said after new → Keeps number said after
+ticks : (outputs : List StepOutput) (number : ℕ) (old new : Broker) (client after : ClientState GroupPlace) (now : ℕ) → client.conn.number ≡ number
+    → Ticks Calls slot_of old client now outputs after new → Keeps number outputs after
 ticks [] number old new client after now is ticked = absurd ticked
-ticks (said ∷ rest) number old new client after now is (inl last) = (last.0.same ∙ is, (last.0.told ∙ is, subst (AreSentTo number) (sym last.2) tt))
-ticks (said ∷ rest) number old new client after now is (inr more) =
+ticks (outputs ∷ rest) number old new client after now is (inl last) = (last.0.same ∙ is, (last.0.told ∙ is, subst (AreSentTo number) (sym last.2) tt))
+ticks (outputs ∷ rest) number old new client after now is (inr more) =
     let later = reads rest number more.1 new more.0 after now (more.2.same ∙ is) more.4 in (later.0, (more.2.told ∙ is, later.1))
 
 fails_at_tick : (number : ℕ) (old new : Broker) (client after : ClientState GroupPlace) (now : ℕ) → client.conn.number ≡ number
@@ -64,10 +64,10 @@ fails_at_tick : (number : ℕ) (old new : Broker) (client after : ClientState Gr
 fails_at_tick number old new client after now is (inl given) = given_up number old new client after now inputs.EndOfInput is given
 fails_at_tick number old new client after now is (inr fails) = fails.same ∙ is
 
-fails_to_tick : (said : List StepOutput) (number : ℕ) (old new : Broker) (client after : ClientState GroupPlace) (now : ℕ) → client.conn.number ≡ number
-    → FailsToTick Calls slot_of old client now said after new → Keeps number said after
+fails_to_tick : (outputs : List StepOutput) (number : ℕ) (old new : Broker) (client after : ClientState GroupPlace) (now : ℕ) → client.conn.number ≡ number
+    → FailsToTick Calls slot_of old client now outputs after new → Keeps number outputs after
 fails_to_tick [] number old new client after now is fails = (fails_at_tick number old new client after now is fails, tt)
-fails_to_tick (said ∷ rest) number old new client after now is fails =
+fails_to_tick (outputs ∷ rest) number old new client after now is fails =
     let later = fails_to_read rest number fails.1 new fails.0 after now (fails.2.same ∙ is) fails.4 in (later.0, (fails.2.told ∙ is, later.1))
 
 stays : (phase : ConnPhase GroupPlace) (number : ℕ) (client : ClientState GroupPlace) → client.conn.number ≡ number → IsNumbered number (kept_as phase client)
@@ -78,13 +78,13 @@ stays Ended number client is = tt
 
 -- what happened in a cell: it keeps its number, and all is said to it
 abbrev Cell : ℕ → List StepOutput → Option (ClientState GroupPlace) → Type 0
-Cell number said after = IsNumbered number after × AreSentTo number said
+Cell number outputs after = IsNumbered number after × AreSentTo number outputs
 
-becomes : (number : ℕ) (said : List StepOutput) (client : ClientState GroupPlace) (after : Option (ClientState GroupPlace)) → after ≡ kept client → Keeps number said client → Cell number said after
-becomes number said client after is keeps = (subst (IsNumbered number) (sym is) (stays client.conn.phase number client keeps.0), keeps.1)
+becomes : (number : ℕ) (outputs : List StepOutput) (client : ClientState GroupPlace) (after : Option (ClientState GroupPlace)) → after ≡ kept client → Keeps number outputs client → Cell number outputs after
+becomes number outputs client after is keeps = (subst (IsNumbered number) (sym is) (stays client.conn.phase number client keeps.0), keeps.1)
 
-nobody : (number : ℕ) (said : List StepOutput) (after : Option (ClientState GroupPlace)) → said ≡ [] → after ≡ None → Cell number said after
-nobody number said after silent is = (subst (IsNumbered number) (sym is) tt, subst (AreSentTo number) (sym silent) tt)
+nobody : (number : ℕ) (outputs : List StepOutput) (after : Option (ClientState GroupPlace)) → outputs ≡ [] → after ≡ None → Cell number outputs after
+nobody number outputs after silent is = (subst (IsNumbered number) (sym is) tt, subst (AreSentTo number) (sym silent) tt)
 
 opens : (number : ℕ) (opening : Opening) (before after : Option (ClientState GroupPlace)) → IsNumbered number before → Opens number opening before after → IsNumbered number after
 opens number opening None after is does = subst (IsNumbered number) (sym does) refl
@@ -135,53 +135,53 @@ in_cell clients clients' number Becomes cell all is other client has =
     (cases_eq other number)
 
 -- the close
-ended : (number : ℕ) (old new : Broker) (clients clients' : Clients) (now : ℕ) (said : List StepOutput) (result : Result (Unit {0}) NoMemory)
-    → AreNumbered clients → EndsAt number old clients now said result clients' new → AreNumbered clients'
-ended number old new clients clients' now said result all ends =
-    in_cell clients clients' number _ ends all (ends_for result ends.before number old new now inputs.Closing said ends.after (at ends.before clients number all ends.has) ends.becomes).0
+ended : (number : ℕ) (old new : Broker) (clients clients' : Clients) (now : ℕ) (outputs : List StepOutput) (result : Result (Unit {0}) NoMemory)
+    → AreNumbered clients → EndsAt number old clients now outputs result clients' new → AreNumbered clients'
+ended number old new clients clients' now outputs result all ends =
+    in_cell clients clients' number _ ends all (ends_for result ends.before number old new now inputs.Closing outputs ends.after (at ends.before clients number all ends.has) ends.becomes).0
 
-pub first_ended : (number : ℕ) (old new : Broker) (clients clients' : Clients) (now : ℕ) (said : List StepOutput) (result : Result (Unit {0}) NoMemory)
-    → AreNumbered clients → EndsFirst number old clients now said result clients' new → AreNumbered clients'
-first_ended zero old new clients clients' now said result all ends = subst AreNumbered (sym ends.2) all
-first_ended (suc number) old new clients clients' now said result all ends =
+pub first_ended : (number : ℕ) (old new : Broker) (clients clients' : Clients) (now : ℕ) (outputs : List StepOutput) (result : Result (Unit {0}) NoMemory)
+    → AreNumbered clients → EndsFirst number old clients now outputs result clients' new → AreNumbered clients'
+first_ended zero old new clients clients' now outputs result all ends = subst AreNumbered (sym ends.2) all
+first_ended (suc number) old new clients clients' now outputs result all ends =
     ended number ends.0 new ends.1 clients' now ends.3 ends.5 (first_ended number old ends.0 clients ends.1 now ends.2 ends.4 all ends.6) ends.7
 
-closed : (result : Result (Unit {0}) NoMemory) (old new : Broker) (clients clients' : Clients) (now : ℕ) (said : List StepOutput)
-    → AreNumbered clients → ClosesAll old clients now said result clients' new → AreNumbered clients'
-closed result old new clients clients' now said all closes = first_ended closes.2 closes.0 new clients clients' now said result all closes.4
+closed : (result : Result (Unit {0}) NoMemory) (old new : Broker) (clients clients' : Clients) (now : ℕ) (outputs : List StepOutput)
+    → AreNumbered clients → ClosesAll old clients now outputs result clients' new → AreNumbered clients'
+closed result old new clients clients' now outputs all closes = first_ended closes.2 closes.0 new clients clients' now outputs result all closes.4
 
 -- an event: those that are open keep their numbers, and it is answered
-does : (max_inflight : ℕ) (event : ServerEvent) (old new : Broker) (clients clients' : Clients) (now : ℕ) (said : List StepOutput) (result : Result (Unit {0}) NoMemory)
-    → AreNumbered clients → Does event max_inflight old clients now said result clients' new → AreNumbered clients' × Answers event said
-does max_inflight (events.Open number) old new clients clients' now said result all done =
+does : (max_inflight : ℕ) (event : ServerEvent) (old new : Broker) (clients clients' : Clients) (now : ℕ) (outputs : List StepOutput) (result : Result (Unit {0}) NoMemory)
+    → AreNumbered clients → Does event max_inflight old clients now outputs result clients' new → AreNumbered clients' × Answers event outputs
+does max_inflight (events.Open number) old new clients clients' now outputs result all done =
     let cell = done.0 in
     (in_cell clients clients' number _ cell all (opens number _ cell.before cell.after (at cell.before clients number all cell.has) cell.becomes), subst (AreSentTo number) (sym done.2) tt)
-does max_inflight (events.Bytes number piece) old new clients clients' now said result all cell =
-    let is = receives result cell.before number old new now piece said cell.after (at cell.before clients number all cell.has) cell.becomes in
+does max_inflight (events.Bytes number piece) old new clients clients' now outputs result all cell =
+    let is = receives result cell.before number old new now piece outputs cell.after (at cell.before clients number all cell.has) cell.becomes in
     (in_cell clients clients' number _ cell all is.0, is.1)
-does max_inflight (events.Tick number) old new clients clients' now said result all cell =
-    let is = ticks_for result cell.before number old new now said cell.after (at cell.before clients number all cell.has) cell.becomes in
+does max_inflight (events.Tick number) old new clients clients' now outputs result all cell =
+    let is = ticks_for result cell.before number old new now outputs cell.after (at cell.before clients number all cell.has) cell.becomes in
     (in_cell clients clients' number _ cell all is.0, is.1)
-does max_inflight (events.End number) old new clients clients' now said result all cell =
-    let is = ends_for result cell.before number old new now inputs.EndOfInput said cell.after (at cell.before clients number all cell.has) cell.becomes in
+does max_inflight (events.End number) old new clients clients' now outputs result all cell =
+    let is = ends_for result cell.before number old new now inputs.EndOfInput outputs cell.after (at cell.before clients number all cell.has) cell.becomes in
     (in_cell clients clients' number _ cell all is.0, is.1)
-does max_inflight events.Close old new clients clients' now said result all closes = (closed result old new clients clients' now said all closes, tt)
+does max_inflight events.Close old new clients clients' now outputs result all closes = (closed result old new clients clients' now outputs all closes, tt)
 
-silent : (event : ServerEvent) (said : List StepOutput) → said ≡ [] → Answers event said
-silent (events.Open number) said none = subst (AreSentTo number) (sym none) tt
-silent (events.Bytes number piece) said none = subst (AreSentTo number) (sym none) tt
-silent (events.Tick number) said none = subst (AreSentTo number) (sym none) tt
-silent (events.End number) said none = subst (AreSentTo number) (sym none) tt
-silent events.Close said none = tt
+silent : (event : ServerEvent) (outputs : List StepOutput) → outputs ≡ [] → Answers event outputs
+silent (events.Open number) outputs none = subst (AreSentTo number) (sym none) tt
+silent (events.Bytes number piece) outputs none = subst (AreSentTo number) (sym none) tt
+silent (events.Tick number) outputs none = subst (AreSentTo number) (sym none) tt
+silent (events.End number) outputs none = subst (AreSentTo number) (sym none) tt
+silent events.Close outputs none = tt
 
-does_if : (max_inflight : ℕ) (open? : Bool) (event : ServerEvent) (old new : Broker) (clients clients' : Clients) (now : ℕ) (said : List StepOutput) (result : Result (Unit {0}) NoMemory)
-    → AreNumbered clients → DoesIf open? event max_inflight old clients now said result clients' new → AreNumbered clients' × Answers event said
-does_if max_inflight true event old new clients clients' now said result all done = does max_inflight event old new clients clients' now said result all done
-does_if max_inflight false event old new clients clients' now said result all done = (subst AreNumbered (sym done.2) all, silent event said done.0)
+does_if : (max_inflight : ℕ) (open? : Bool) (event : ServerEvent) (old new : Broker) (clients clients' : Clients) (now : ℕ) (outputs : List StepOutput) (result : Result (Unit {0}) NoMemory)
+    → AreNumbered clients → DoesIf open? event max_inflight old clients now outputs result clients' new → AreNumbered clients' × Answers event outputs
+does_if max_inflight true event old new clients clients' now outputs result all done = does max_inflight event old new clients clients' now outputs result all done
+does_if max_inflight false event old new clients clients' now outputs result all done = (subst AreNumbered (sym done.2) all, silent event outputs done.0)
 
-pub answered : (moment : ℕ) (event : ServerEvent) (said : List StepOutput) (result : Result (Unit {0}) NoMemory) (old new : ServerState) → AreNumbered old.clients → Happens old moment event said result new
-    → AreNumbered new.clients × Answers event said
-answered moment event said result old new all happens = does_if _ (is_open old.broker) event old.broker new.broker old.clients new.clients new.clock said result all happens.does
+pub answered : (moment : ℕ) (event : ServerEvent) (outputs : List StepOutput) (result : Result (Unit {0}) NoMemory) (old new : ServerState) → AreNumbered old.clients → Happens old moment event outputs result new
+    → AreNumbered new.clients × Answers event outputs
+answered moment event outputs result old new all happens = does_if _ (is_open old.broker) event old.broker new.broker old.clients new.clients new.clock outputs result all happens.does
 
 nobody_at : (count number : ℕ) (client : ClientState GroupPlace) → slice_get (replicate {A = Option (ClientState GroupPlace)} count None) number ≡ Some (Some client) → ⊥
 nobody_at zero number client has = cc has

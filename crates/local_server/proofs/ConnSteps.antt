@@ -69,8 +69,8 @@ pub own_place : (connection : ℕ) (conn_steps : List ConnStep) (conn_step : Con
 own_place connection conn_steps conn_step its = ap last_place (conn_steps_with connection conn_steps conn_step its) ∙ last_of (conn_steps_of connection conn_steps) conn_step
 
 -- what is said first, and then
-pub told_on : (said more : List StepOutput) (conn_steps others : List ConnStep) → AllTell said conn_steps → AllTell more others → AllTell (said ++ more) (conn_steps ++ others)
+pub told_on : (outputs more : List StepOutput) (conn_steps others : List ConnStep) → AllTell outputs conn_steps → AllTell more others → AllTell (outputs ++ more) (conn_steps ++ others)
 told_on [] more [] others told those = those
 told_on [] more (conn_step ∷ conn_steps) others told those = absurd told
-told_on (first ∷ said) more [] others told those = absurd told
-told_on (first ∷ said) more (conn_step ∷ conn_steps) others told those = (told.0, told_on said more conn_steps others told.1 those)
+told_on (first ∷ outputs) more [] others told those = absurd told
+told_on (first ∷ outputs) more (conn_step ∷ conn_steps) others told those = (told.0, told_on outputs more conn_steps others told.1 those)

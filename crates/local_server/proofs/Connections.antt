@@ -53,26 +53,26 @@ opens_up : (number : ℕ) (opening : Opening) (before after : Option (ClientStat
 opens_up number opening None after up does = subst IsUp (sym does) (λ over. cc)
 opens_up number opening (Some client) after up does = subst IsUp (sym does) up
 
-receives_up : (result : Result (Unit {0}) NoMemory) (before after : Option (ClientState GroupPlace)) (old new : Broker) (now : ℕ) (piece : List ℕ) (said : List StepOutput)
-    → Receives Calls slot_of old before now piece said result after new → IsUp after
-receives_up (Ok done) None after old new now piece said does = gone_up after does.1
-receives_up (Ok done) (Some client) after old new now piece said does = becomes_up does.0 after does.2
-receives_up (Err error) None after old new now piece said does = absurd does
-receives_up (Err error) (Some client) after old new now piece said does = becomes_up does.0 after does.2
+receives_up : (result : Result (Unit {0}) NoMemory) (before after : Option (ClientState GroupPlace)) (old new : Broker) (now : ℕ) (piece : List ℕ) (outputs : List StepOutput)
+    → Receives Calls slot_of old before now piece outputs result after new → IsUp after
+receives_up (Ok done) None after old new now piece outputs does = gone_up after does.1
+receives_up (Ok done) (Some client) after old new now piece outputs does = becomes_up does.0 after does.2
+receives_up (Err error) None after old new now piece outputs does = absurd does
+receives_up (Err error) (Some client) after old new now piece outputs does = becomes_up does.0 after does.2
 
-ticks_up : (result : Result (Unit {0}) NoMemory) (before after : Option (ClientState GroupPlace)) (old new : Broker) (now : ℕ) (said : List StepOutput)
-    → TicksFor Calls slot_of old before now said result after new → IsUp after
-ticks_up (Ok done) None after old new now said does = gone_up after does.1
-ticks_up (Ok done) (Some client) after old new now said does = becomes_up does.0 after does.2
-ticks_up (Err error) None after old new now said does = absurd does
-ticks_up (Err error) (Some client) after old new now said does = becomes_up does.0 after does.2
+ticks_up : (result : Result (Unit {0}) NoMemory) (before after : Option (ClientState GroupPlace)) (old new : Broker) (now : ℕ) (outputs : List StepOutput)
+    → TicksFor Calls slot_of old before now outputs result after new → IsUp after
+ticks_up (Ok done) None after old new now outputs does = gone_up after does.1
+ticks_up (Ok done) (Some client) after old new now outputs does = becomes_up does.0 after does.2
+ticks_up (Err error) None after old new now outputs does = absurd does
+ticks_up (Err error) (Some client) after old new now outputs does = becomes_up does.0 after does.2
 
-ends_up : (result : Result (Unit {0}) NoMemory) (before after : Option (ClientState GroupPlace)) (old new : Broker) (now : ℕ) (input : Input) (said : List StepOutput)
-    → EndsFor Calls slot_of old before now input said result after new → IsUp after
-ends_up (Ok done) None after old new now input said does = gone_up after does.1
-ends_up (Ok done) (Some client) after old new now input said does = becomes_up does.0 after does.2
-ends_up (Err error) None after old new now input said does = absurd does
-ends_up (Err error) (Some client) after old new now input said does = becomes_up does.0 after does.2
+ends_up : (result : Result (Unit {0}) NoMemory) (before after : Option (ClientState GroupPlace)) (old new : Broker) (now : ℕ) (input : Input) (outputs : List StepOutput)
+    → EndsFor Calls slot_of old before now input outputs result after new → IsUp after
+ends_up (Ok done) None after old new now input outputs does = gone_up after does.1
+ends_up (Ok done) (Some client) after old new now input outputs does = becomes_up does.0 after does.2
+ends_up (Err error) None after old new now input outputs does = absurd does
+ends_up (Err error) (Some client) after old new now input outputs does = becomes_up does.0 after does.2
 
 cell_up : (clients clients' : Clients) (number : ℕ) (Becomes : Option (ClientState GroupPlace) → Option (ClientState GroupPlace) → Type 0) (cell : InCell clients number Becomes clients')
     → AreUp clients → IsUp cell.after → AreUp clients'
@@ -87,10 +87,10 @@ cell_up clients clients' number Becomes cell all up each =
     subst IsUp (sym (ap (λ (l : Clients). client_at l each) cell.is ∙ ap open_in (slice_get-set_other clients number each cell.after other))) (all each))
     (cases_eq each number)
 
-first_ended : (number : ℕ) (old new : Broker) (clients clients' : Clients) (now : ℕ) (said : List StepOutput) (result : Result (Unit {0}) NoMemory) → AreUp clients
-    → EndsFirst number old clients now said result clients' new → AreUp clients'
-first_ended zero old new clients clients' now said result all ends = subst AreUp (sym ends.2) all
-first_ended (suc number) old new clients clients' now said result all ends =
+first_ended : (number : ℕ) (old new : Broker) (clients clients' : Clients) (now : ℕ) (outputs : List StepOutput) (result : Result (Unit {0}) NoMemory) → AreUp clients
+    → EndsFirst number old clients now outputs result clients' new → AreUp clients'
+first_ended zero old new clients clients' now outputs result all ends = subst AreUp (sym ends.2) all
+first_ended (suc number) old new clients clients' now outputs result all ends =
     let cell = ends.7 in
     cell_up ends.1 clients' number _ cell (first_ended number old ends.0 clients ends.1 now ends.2 ends.4 all ends.6)
     (ends_up ends.5 cell.before cell.after ends.0 new now inputs.Closing ends.3 cell.becomes)
@@ -98,23 +98,23 @@ first_ended (suc number) old new clients clients' now said result all ends =
 at_cell : (clients : Clients) (number : ℕ) (cell : Option (ClientState GroupPlace)) → AreUp clients → slice_get clients number ≡ Some cell → IsUp cell
 at_cell clients number cell all has = subst IsUp (ap open_in has) (all number)
 
-does_up : (max_inflight : ℕ) (event : ServerEvent) (old new : Broker) (clients clients' : Clients) (now : ℕ) (said : List StepOutput) (result : Result (Unit {0}) NoMemory) → AreUp clients
-    → Does event max_inflight old clients now said result clients' new → AreUp clients'
-does_up max_inflight (events.Open number) old new clients clients' now said result all done =
+does_up : (max_inflight : ℕ) (event : ServerEvent) (old new : Broker) (clients clients' : Clients) (now : ℕ) (outputs : List StepOutput) (result : Result (Unit {0}) NoMemory) → AreUp clients
+    → Does event max_inflight old clients now outputs result clients' new → AreUp clients'
+does_up max_inflight (events.Open number) old new clients clients' now outputs result all done =
     let cell = done.0 in
     cell_up clients clients' number _ cell all (opens_up number _ cell.before cell.after (at_cell clients number cell.before all cell.has) cell.becomes)
-does_up max_inflight (events.Bytes number piece) old new clients clients' now said result all cell =
-    cell_up clients clients' number _ cell all (receives_up result cell.before cell.after old new now piece said cell.becomes)
-does_up max_inflight (events.Tick number) old new clients clients' now said result all cell =
-    cell_up clients clients' number _ cell all (ticks_up result cell.before cell.after old new now said cell.becomes)
-does_up max_inflight (events.End number) old new clients clients' now said result all cell =
-    cell_up clients clients' number _ cell all (ends_up result cell.before cell.after old new now inputs.EndOfInput said cell.becomes)
-does_up max_inflight events.Close old new clients clients' now said result all closes = first_ended closes.2 closes.0 new clients clients' now said result all closes.4
+does_up max_inflight (events.Bytes number piece) old new clients clients' now outputs result all cell =
+    cell_up clients clients' number _ cell all (receives_up result cell.before cell.after old new now piece outputs cell.becomes)
+does_up max_inflight (events.Tick number) old new clients clients' now outputs result all cell =
+    cell_up clients clients' number _ cell all (ticks_up result cell.before cell.after old new now outputs cell.becomes)
+does_up max_inflight (events.End number) old new clients clients' now outputs result all cell =
+    cell_up clients clients' number _ cell all (ends_up result cell.before cell.after old new now inputs.EndOfInput outputs cell.becomes)
+does_up max_inflight events.Close old new clients clients' now outputs result all closes = first_ended closes.2 closes.0 new clients clients' now outputs result all closes.4
 
-pub does_up_if : (max_inflight : ℕ) (open? : Bool) (event : ServerEvent) (old new : Broker) (clients clients' : Clients) (now : ℕ) (said : List StepOutput) (result : Result (Unit {0}) NoMemory) → AreUp clients
-    → DoesIf open? event max_inflight old clients now said result clients' new → AreUp clients'
-does_up_if max_inflight true event old new clients clients' now said result all done = does_up max_inflight event old new clients clients' now said result all done
-does_up_if max_inflight false event old new clients clients' now said result all done = subst AreUp (sym done.2) all
+pub does_up_if : (max_inflight : ℕ) (open? : Bool) (event : ServerEvent) (old new : Broker) (clients clients' : Clients) (now : ℕ) (outputs : List StepOutput) (result : Result (Unit {0}) NoMemory) → AreUp clients
+    → DoesIf open? event max_inflight old clients now outputs result clients' new → AreUp clients'
+does_up_if max_inflight true event old new clients clients' now outputs result all done = does_up max_inflight event old new clients clients' now outputs result all done
+does_up_if max_inflight false event old new clients clients' now outputs result all done = subst AreUp (sym done.2) all
 
 pub none_at : (count number : ℕ) → open_in (slice_get (replicate {A = Option (ClientState GroupPlace)} count None) number) ≡ None
 none_at zero number = refl
@@ -227,10 +227,10 @@ keeps_if : (open? : Bool) (event : ServerEvent) (old new : ServerState) (steps :
 keeps_if true event old new steps lawful up up' taken answer = λ number. keeps event old new steps lawful up up' taken answer number
 keeps_if false event old new steps lawful up up' taken answer = (taken.0, taken.2)
 
-all_keep : (events : List TimedEvent) (said : List StepOutput) (old new : ServerState) → AreUp old.clients → (run : HappensAll old events said new) (steps : List TakenStep)
-    → (taken : AllAreTaken old events said new run steps) → AllKeepConnections old events said new run steps taken
-all_keep [] said old new up run steps taken = tt
-all_keep (event ∷ others) said old new up run steps taken =
+all_keep : (events : List TimedEvent) (outputs : List StepOutput) (old new : ServerState) → AreUp old.clients → (run : HappensAll old events outputs new) (steps : List TakenStep)
+    → (taken : AllAreTaken old events outputs new run steps) → AllKeepConnections old events outputs new run steps taken
+all_keep [] outputs old new up run steps taken = tt
+all_keep (event ∷ others) outputs old new up run steps taken =
     let mid = run.0 in
     let these = taken.2 in
     let up' = does_up_if old.max_inflight (is_open old.broker) event.event old.broker mid.broker old.clients mid.clients mid.clock run.1 (Ok tt) up run.3.does in (
@@ -238,9 +238,9 @@ all_keep (event ∷ others) said old new up run steps taken =
       all_keep others run.2 mid new up' run.4 taken.1 taken.3,
     )
 
-pub kept_in_run : (setup : Setup) (events : List TimedEvent) (said : List StepOutput) (first last : ServerState) → IsNewServer setup first → (run : HappensAll first events said last)
-    → (steps : List TakenStep) (taken : AllAreTaken first events said last run steps) → AllKeepConnections first events said last run steps taken
-kept_in_run setup events said first last new run steps taken = all_keep events said first last (new_up setup first new) run steps taken
+pub kept_in_run : (setup : Setup) (events : List TimedEvent) (outputs : List StepOutput) (first last : ServerState) → IsNewServer setup first → (run : HappensAll first events outputs last)
+    → (steps : List TakenStep) (taken : AllAreTaken first events outputs last run steps) → AllKeepConnections first events outputs last run steps taken
+kept_in_run setup events outputs first last new run steps taken = all_keep events outputs first last (new_up setup first new) run steps taken
 
 -- an event of another connection
 stays_in_cell : (clients clients' : Clients) (number other : ℕ) (Becomes : Option (ClientState GroupPlace) → Option (ClientState GroupPlace) → Type 0) → InCell clients number Becomes clients' → other ≢ number
@@ -248,20 +248,20 @@ stays_in_cell : (clients clients' : Clients) (number other : ℕ) (Becomes : Opt
 stays_in_cell clients clients' number other Becomes cell apart =
     ap (λ (l : Clients). client_at l other) cell.is ∙ ap open_in (slice_get-set_other clients number other cell.after apart)
 
-pub does_aside : (max_inflight : ℕ) (event : ServerEvent) (old new : Broker) (clients clients' : Clients) (now : ℕ) (said : List StepOutput) (result : Result (Unit {0}) NoMemory) (number : ℕ)
-    → IsOfAnother event number → Does event max_inflight old clients now said result clients' new → client_at clients' number ≡ client_at clients number
-does_aside max_inflight (events.Open its) old new clients clients' now said result number apart done = stays_in_cell clients clients' its number _ done.0 apart
-does_aside max_inflight (events.Bytes its piece) old new clients clients' now said result number apart cell = stays_in_cell clients clients' its number _ cell apart
-does_aside max_inflight (events.Tick its) old new clients clients' now said result number apart cell = stays_in_cell clients clients' its number _ cell apart
-does_aside max_inflight (events.End its) old new clients clients' now said result number apart cell = stays_in_cell clients clients' its number _ cell apart
-does_aside max_inflight events.Close old new clients clients' now said result number apart closes = absurd apart
+pub does_aside : (max_inflight : ℕ) (event : ServerEvent) (old new : Broker) (clients clients' : Clients) (now : ℕ) (outputs : List StepOutput) (result : Result (Unit {0}) NoMemory) (number : ℕ)
+    → IsOfAnother event number → Does event max_inflight old clients now outputs result clients' new → client_at clients' number ≡ client_at clients number
+does_aside max_inflight (events.Open its) old new clients clients' now outputs result number apart done = stays_in_cell clients clients' its number _ done.0 apart
+does_aside max_inflight (events.Bytes its piece) old new clients clients' now outputs result number apart cell = stays_in_cell clients clients' its number _ cell apart
+does_aside max_inflight (events.Tick its) old new clients clients' now outputs result number apart cell = stays_in_cell clients clients' its number _ cell apart
+does_aside max_inflight (events.End its) old new clients clients' now outputs result number apart cell = stays_in_cell clients clients' its number _ cell apart
+does_aside max_inflight events.Close old new clients clients' now outputs result number apart closes = absurd apart
 
-does_aside_if : (max_inflight : ℕ) (open? : Bool) (event : ServerEvent) (old new : Broker) (clients clients' : Clients) (now : ℕ) (said : List StepOutput) (result : Result (Unit {0}) NoMemory) (number : ℕ)
-    → IsOfAnother event number → DoesIf open? event max_inflight old clients now said result clients' new → client_at clients' number ≡ client_at clients number
-does_aside_if max_inflight true event old new clients clients' now said result number apart done = does_aside max_inflight event old new clients clients' now said result number apart done
-does_aside_if max_inflight false event old new clients clients' now said result number apart done = ap (λ (l : Clients). client_at l number) done.2
+does_aside_if : (max_inflight : ℕ) (open? : Bool) (event : ServerEvent) (old new : Broker) (clients clients' : Clients) (now : ℕ) (outputs : List StepOutput) (result : Result (Unit {0}) NoMemory) (number : ℕ)
+    → IsOfAnother event number → DoesIf open? event max_inflight old clients now outputs result clients' new → client_at clients' number ≡ client_at clients number
+does_aside_if max_inflight true event old new clients clients' now outputs result number apart done = does_aside max_inflight event old new clients clients' now outputs result number apart done
+does_aside_if max_inflight false event old new clients clients' now outputs result number apart done = ap (λ (l : Clients). client_at l number) done.2
 
-pub others_stay : (moment : ℕ) (event : ServerEvent) (said : List StepOutput) (result : Result (Unit {0}) NoMemory) (old new : ServerState) (number : ℕ) → Happens old moment event said result new
+pub others_stay : (moment : ℕ) (event : ServerEvent) (outputs : List StepOutput) (result : Result (Unit {0}) NoMemory) (old new : ServerState) (number : ℕ) → Happens old moment event outputs result new
     → IsOfAnother event number → client_at new.clients number ≡ client_at old.clients number
-others_stay moment event said result old new number happens apart =
-    does_aside_if old.max_inflight (is_open old.broker) event old.broker new.broker old.clients new.clients new.clock said result number apart happens.does
+others_stay moment event outputs result old new number happens apart =
+    does_aside_if old.max_inflight (is_open old.broker) event old.broker new.broker old.clients new.clients new.clock outputs result number apart happens.does

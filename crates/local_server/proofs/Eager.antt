@@ -20,49 +20,49 @@ unchanged : (old new : Broker) → new ≡ old → AllServeReturnedFirst old →
 unchanged old new same all = subst AllServeReturnedFirst (sym same) all
 
 -- one connection after another ends
-all_end : (number : ℕ) (old new : Broker) (clients clients' : Clients) (now : ℕ) (said : List StepOutput) (result : Result (Unit {0}) NoMemory)
-    → EndsFirst number old clients now said result clients' new → AllServeReturnedFirst old → AllServeReturnedFirst new
-all_end zero old new clients clients' now said result ends all = unchanged old new ends.3 all
-all_end (suc number) old new clients clients' now said result ends all =
+all_end : (number : ℕ) (old new : Broker) (clients clients' : Clients) (now : ℕ) (outputs : List StepOutput) (result : Result (Unit {0}) NoMemory)
+    → EndsFirst number old clients now outputs result clients' new → AllServeReturnedFirst old → AllServeReturnedFirst new
+all_end zero old new clients clients' now outputs result ends all = unchanged old new ends.3 all
+all_end (suc number) old new clients clients' now outputs result ends all =
     stays_first ends.0 new (ends_for Calls slot_of ends.5 ends.7.before ends.0 new now inputs.Closing ends.3 ends.7.after ends.7.becomes)
     (all_end number old ends.0 clients ends.1 now ends.2 ends.4 ends.6 all)
 
-does : (max_inflight : ℕ) (event : ServerEvent) (old new : Broker) (clients clients' : Clients) (now : ℕ) (said : List StepOutput) (result : Result (Unit {0}) NoMemory)
-    → Does event max_inflight old clients now said result clients' new → AllServeReturnedFirst old → AllServeReturnedFirst new
-does max_inflight (events.Open number) old new clients clients' now said result done all = unchanged old new done.1 all
-does max_inflight (events.Bytes number piece) old new clients clients' now said result done all =
-    stays_first old new (receives Calls slot_of result done.before old new now piece said done.after done.becomes) all
-does max_inflight (events.Tick number) old new clients clients' now said result done all =
-    stays_first old new (ticks_for Calls slot_of result done.before old new now said done.after done.becomes) all
-does max_inflight (events.End number) old new clients clients' now said result done all =
-    stays_first old new (ends_for Calls slot_of result done.before old new now inputs.EndOfInput said done.after done.becomes) all
-does max_inflight events.Close old new clients clients' now said result done all =
-    all_end done.2 done.0 new clients clients' now said result done.4 (stays_first_closed old done.0 done.1 all)
+does : (max_inflight : ℕ) (event : ServerEvent) (old new : Broker) (clients clients' : Clients) (now : ℕ) (outputs : List StepOutput) (result : Result (Unit {0}) NoMemory)
+    → Does event max_inflight old clients now outputs result clients' new → AllServeReturnedFirst old → AllServeReturnedFirst new
+does max_inflight (events.Open number) old new clients clients' now outputs result done all = unchanged old new done.1 all
+does max_inflight (events.Bytes number piece) old new clients clients' now outputs result done all =
+    stays_first old new (receives Calls slot_of result done.before old new now piece outputs done.after done.becomes) all
+does max_inflight (events.Tick number) old new clients clients' now outputs result done all =
+    stays_first old new (ticks_for Calls slot_of result done.before old new now outputs done.after done.becomes) all
+does max_inflight (events.End number) old new clients clients' now outputs result done all =
+    stays_first old new (ends_for Calls slot_of result done.before old new now inputs.EndOfInput outputs done.after done.becomes) all
+does max_inflight events.Close old new clients clients' now outputs result done all =
+    all_end done.2 done.0 new clients clients' now outputs result done.4 (stays_first_closed old done.0 done.1 all)
 
-does_if : (max_inflight : ℕ) (going : Bool) (event : ServerEvent) (old new : Broker) (clients clients' : Clients) (now : ℕ) (said : List StepOutput) (result : Result (Unit {0}) NoMemory)
-    → DoesIf going event max_inflight old clients now said result clients' new → AllServeReturnedFirst old → AllServeReturnedFirst new
-does_if max_inflight true event old new clients clients' now said result done all = does max_inflight event old new clients clients' now said result done all
-does_if max_inflight false event old new clients clients' now said result done all = unchanged old new done.3 all
+does_if : (max_inflight : ℕ) (going : Bool) (event : ServerEvent) (old new : Broker) (clients clients' : Clients) (now : ℕ) (outputs : List StepOutput) (result : Result (Unit {0}) NoMemory)
+    → DoesIf going event max_inflight old clients now outputs result clients' new → AllServeReturnedFirst old → AllServeReturnedFirst new
+does_if max_inflight true event old new clients clients' now outputs result done all = does max_inflight event old new clients clients' now outputs result done all
+does_if max_inflight false event old new clients clients' now outputs result done all = unchanged old new done.3 all
 
-happens : (moment : ℕ) (event : ServerEvent) (said : List StepOutput) (result : Result (Unit {0}) NoMemory) (old new : ServerState) → Happens old moment event said result new
+happens : (moment : ℕ) (event : ServerEvent) (outputs : List StepOutput) (result : Result (Unit {0}) NoMemory) (old new : ServerState) → Happens old moment event outputs result new
     → AllServeReturnedFirst old.broker → AllServeReturnedFirst new.broker
-happens moment event said result old new happened all =
-    does_if _ (is_open old.broker) event old.broker new.broker old.clients new.clients new.clock said result happened.does all
+happens moment event outputs result old new happened all =
+    does_if _ (is_open old.broker) event old.broker new.broker old.clients new.clients new.clock outputs result happened.does all
 
-stays : (events : List TimedEvent) (said : List StepOutput) (old new : ServerState) → HappensAll old events said new → AllServeReturnedFirst old.broker → AllServeReturnedFirst new.broker
-stays [] said old new run all = unchanged old.broker new.broker (ap (λ s. s.broker) run.1) all
-stays (first ∷ others) said old new run all =
+stays : (events : List TimedEvent) (outputs : List StepOutput) (old new : ServerState) → HappensAll old events outputs new → AllServeReturnedFirst old.broker → AllServeReturnedFirst new.broker
+stays [] outputs old new run all = unchanged old.broker new.broker (ap (λ s. s.broker) run.1) all
+stays (first ∷ others) outputs old new run all =
     stays others run.2 run.0 new run.4 (happens first.moment first.event run.1 (Ok tt) old run.0 run.3 all)
 
-served : (setup : Setup) (events : List TimedEvent) (said : List StepOutput) (first last : ServerState) → IsNewServer setup first → HappensAll first events said last
+served : (setup : Setup) (events : List TimedEvent) (outputs : List StepOutput) (first last : ServerState) → IsNewServer setup first → HappensAll first events outputs last
     → AllServeReturnedFirst last.broker
-served setup events said first last new run = stays events said first last run (begins_first setup.capacity setup.groups first.broker new.broker)
+served setup events outputs first last new run = stays events outputs first last run (begins_first setup.capacity setup.groups first.broker new.broker)
 
-pub eager : (setup : Setup) (events : List TimedEvent) (said : List StepOutput) (first last : ServerState) → IsNewServer setup first → HappensAll first events said last
+pub eager : (setup : Setup) (events : List TimedEvent) (outputs : List StepOutput) (first last : ServerState) → IsNewServer setup first → HappensAll first events outputs last
     → AllHandReturnedFirst last.broker
-eager setup events said first last new run slot group there = (served setup events said first last new run slot group there).first
+eager setup events outputs first last new run slot group there = (served setup events outputs first last new run slot group there).first
 
-pub eager_next : (setup : Setup) (events : List TimedEvent) (earlier said : List StepOutput) (moment : ℕ) (event : ServerEvent) (result : Result (Unit {0}) NoMemory) (first old new : ServerState)
-    → IsNewServer setup first → HappensAll first events earlier old → Happens old moment event said result new → AllHandReturnedFirst new.broker
-eager_next setup events earlier said moment event result first old new begins run happened slot group there =
-    (happens moment event said result old new happened (served setup events earlier first old begins run) slot group there).first
+pub eager_next : (setup : Setup) (events : List TimedEvent) (earlier outputs : List StepOutput) (moment : ℕ) (event : ServerEvent) (result : Result (Unit {0}) NoMemory) (first old new : ServerState)
+    → IsNewServer setup first → HappensAll first events earlier old → Happens old moment event outputs result new → AllHandReturnedFirst new.broker
+eager_next setup events earlier outputs moment event result first old new begins run happened slot group there =
+    (happens moment event outputs result old new happened (served setup events earlier first old begins run) slot group there).first

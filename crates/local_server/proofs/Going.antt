@@ -59,21 +59,21 @@ goes_as old new number now phase phase' input packets next steps =
 gone : (client : ClientState GroupPlace) → client.conn.phase ≡ Ended → kept client ≡ None
 gone client is = ap (λ (s : ConnPhase GroupPlace). kept_as s client) is
 
-pub stopped : (old new : Broker) (client after : ClientState GroupPlace) (now : ℕ) (input : Input) (said : StepOutput) → ClientSteps Calls slot_of old client now input said after new
-    → said.next ≢ Go → kept after ≡ None
-stopped old new client after now input said moved stops =
+pub stopped : (old new : Broker) (client after : ClientState GroupPlace) (now : ℕ) (input : Input) (output : StepOutput) → ClientSteps Calls slot_of old client now input output after new
+    → output.next ≢ Go → kept after ≡ None
+stopped old new client after now input output moved stops =
     gone after
-    ((ends Calls slot_of old new client.conn.number (moment_of client now) client.conn.phase after.conn.phase input said.packets said.next moved.stepped).1 stops)
+    ((ends Calls slot_of old new client.conn.number (moment_of client now) client.conn.phase after.conn.phase input output.packets output.next moved.stepped).1 stops)
 
-pub ended_by : (old new : Broker) (client after : ClientState GroupPlace) (now : ℕ) (input : Input) (said : StepOutput) → ClientSteps Calls slot_of old client now input said after new
+pub ended_by : (old new : Broker) (client after : ClientState GroupPlace) (now : ℕ) (input : Input) (output : StepOutput) → ClientSteps Calls slot_of old client now input output after new
     → IsLast input → kept after ≡ None
-ended_by old new client after now input said moved last =
-    gone after (ends_by Calls slot_of old new client.conn.number (moment_of client now) client.conn.phase after.conn.phase input said.packets said.next moved.stepped last)
+ended_by old new client after now input output moved last =
+    gone after (ends_by Calls slot_of old new client.conn.number (moment_of client now) client.conn.phase after.conn.phase input output.packets output.next moved.stepped last)
 
-pub closed_by : (old new : Broker) (client after : ClientState GroupPlace) (now : ℕ) (input : Input) (said : StepOutput) → ClientSteps Calls slot_of old client now input said after new
-    → Closes input said.next → kept after ≡ None
-closed_by old new client after now (inputs.Packet packet) said moved closes = stopped old new client after now (inputs.Packet packet) said moved closes
-closed_by old new client after now (inputs.Fault fault) said moved closes = ended_by old new client after now (inputs.Fault fault) said moved tt
-closed_by old new client after now inputs.Tick said moved closes = absurd closes
-closed_by old new client after now inputs.EndOfInput said moved closes = absurd closes
-closed_by old new client after now inputs.Closing said moved closes = absurd closes
+pub closed_by : (old new : Broker) (client after : ClientState GroupPlace) (now : ℕ) (input : Input) (output : StepOutput) → ClientSteps Calls slot_of old client now input output after new
+    → Closes input output.next → kept after ≡ None
+closed_by old new client after now (inputs.Packet packet) output moved closes = stopped old new client after now (inputs.Packet packet) output moved closes
+closed_by old new client after now (inputs.Fault fault) output moved closes = ended_by old new client after now (inputs.Fault fault) output moved tt
+closed_by old new client after now inputs.Tick output moved closes = absurd closes
+closed_by old new client after now inputs.EndOfInput output moved closes = absurd closes
+closed_by old new client after now inputs.Closing output moved closes = absurd closes

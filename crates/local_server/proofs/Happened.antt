@@ -35,31 +35,31 @@ use Rattle.local_server.specs.Deliveries.{HandsOutWhatIsSent}
 use Rattle.local_server.specs.Runs.{IsReachedBy, AllRunLawfully}
 
 -- what was handed out is what was said, but for what was discarded
-record Told (happenings : List Happening) (said : List StepOutput) : Type 0 where
+record Told (happenings : List Happening) (outputs : List StepOutput) : Type 0 where
   outcomes : List (Outcome GroupPlace)
   handed_out : handed_by_all happenings ≡ hand_outs_of outcomes
-  sent : fresh_sent said ≡ contents_of (sent_of outcomes)
+  sent : fresh_sent outputs ≡ contents_of (sent_of outcomes)
 
 -- what happened to a broker in an event by which this was said; what was said is what was handed out, where no allocation failed
-record Ran (result : Result (Unit {0}) NoMemory) (old : Broker) (said : List StepOutput) (new : Broker) : Type 0 where
+record Ran (result : Result (Unit {0}) NoMemory) (old : Broker) (outputs : List StepOutput) (new : Broker) : Type 0 where
   happenings : List Happening
   led : HappensToBroker old happenings new
-  told : IsOk result → Told happenings said
+  told : IsOk result → Told happenings outputs
 
-still : (result : Result (Unit {0}) NoMemory) (old new : Broker) (said : List StepOutput) → said ≡ [] → new ≡ old → Ran result old said new
-still result old new said none same = record { happenings = []; led = same; told = λ ok. record { outcomes = []; handed_out = refl; sent = ap fresh_sent none } }
+still : (result : Result (Unit {0}) NoMemory) (old new : Broker) (outputs : List StepOutput) → outputs ≡ [] → new ≡ old → Ran result old outputs new
+still result old new outputs none same = record { happenings = []; led = same; told = λ ok. record { outcomes = []; handed_out = refl; sent = ap fresh_sent none } }
 
 pub joins : (happenings others : List Happening) (old mid new : Broker) → HappensToBroker old happenings mid → HappensToBroker mid others new → HappensToBroker old (happenings ++ others) new
 joins [] others old mid new these those = subst (λ b. HappensToBroker b others new) these those
 joins (happening ∷ happenings) others old mid new these those = (these.0, these.1, joins happenings others these.0 mid new these.2 those)
 
 -- what is said first and then, and what is handed out first and then
-told_behind : (said more all : List StepOutput) (happenings others : List Happening) → all ≡ said ++ more → Told happenings said → Told others more → Told (happenings ++ others) all
-told_behind said more all happenings others is these those =
+told_behind : (outputs more all : List StepOutput) (happenings others : List Happening) → all ≡ outputs ++ more → Told happenings outputs → Told others more → Told (happenings ++ others) all
+told_behind outputs more all happenings others is these those =
     record {
       outcomes = these.outcomes ++ those.outcomes;
       handed_out = filter_map-append handed_by happenings others ∙ (λ i. these.handed_out i ++ those.handed_out i) ∙ sym (hands_of_both these.outcomes those.outcomes);
-      sent = ap fresh_sent is ∙ fresh_sent-append said more ∙ (λ i. these.sent i ++ those.sent i) ∙ sym (contents_of_both these.outcomes those.outcomes);
+      sent = ap fresh_sent is ∙ fresh_sent-append outputs more ∙ (λ i. these.sent i ++ those.sent i) ∙ sym (contents_of_both these.outcomes those.outcomes);
     }
 
 pub first_ok : (first then : Result (Unit {0}) NoMemory) → IsOk (result_and first then) → IsOk first
@@ -70,13 +70,13 @@ pub then_ok : (first then : Result (Unit {0}) NoMemory) → IsOk (result_and fir
 then_ok (Ok done) then ok = ok
 then_ok (Err error) then ok = absurd (false≢true ok)
 
-behind : (first then : Result (Unit {0}) NoMemory) (old mid new : Broker) (said more all : List StepOutput) → all ≡ said ++ more → Ran first old said mid → Ran then mid more new
+behind : (first then : Result (Unit {0}) NoMemory) (old mid new : Broker) (outputs more all : List StepOutput) → all ≡ outputs ++ more → Ran first old outputs mid → Ran then mid more new
     → Ran (result_and first then) old all new
-behind first then old mid new said more all is these those =
+behind first then old mid new outputs more all is these those =
     record {
       happenings = these.happenings ++ those.happenings;
       led = joins these.happenings those.happenings old mid new these.led those.led;
-      told = λ ok. told_behind said more all these.happenings those.happenings is (these.told (first_ok first then ok)) (those.told (then_ok first then ok));
+      told = λ ok. told_behind outputs more all these.happenings those.happenings is (these.told (first_ok first then ok)) (those.told (then_ok first then ok));
     }
 
 -- calls of connections
@@ -88,83 +88,83 @@ pub handed_by_calls : (supply_calls : List (SupplyCall GroupPlace)) → handed_b
 handed_by_calls [] = refl
 handed_by_calls (supply_call ∷ supply_calls) = ap (cons_option (hand_out_of supply_call)) (handed_by_calls supply_calls)
 
-by_calls : (result : Result (Unit {0}) NoMemory) (old new : Broker) (said : List StepOutput) → Delivers Calls old said new → Ran result old said new
-by_calls result old new said calls =
+by_calls : (result : Result (Unit {0}) NoMemory) (old new : Broker) (outputs : List StepOutput) → Delivers Calls old outputs new → Ran result old outputs new
+by_calls result old new outputs calls =
     record {
       happenings = map Called calls.supply_calls;
       led = called calls.supply_calls old new calls.made;
       told = λ ok. record { outcomes = calls.outcomes; handed_out = handed_by_calls calls.supply_calls ∙ calls.handed_out; sent = calls.told };
     }
 
-cut_short : (error : NoMemory) (old new : Broker) (said : List StepOutput) → CallsLead Calls old new → Ran (Err error) old said new
-cut_short error old new said calls = record { happenings = map Called calls.0; led = called calls.0 old new calls.1; told = λ ok. absurd (false≢true ok) }
+cut_short : (error : NoMemory) (old new : Broker) (outputs : List StepOutput) → CallsLead Calls old new → Ran (Err error) old outputs new
+cut_short error old new outputs calls = record { happenings = map Called calls.0; led = called calls.0 old new calls.1; told = λ ok. absurd (false≢true ok) }
 
 -- what happens to the client of a number
-received : (result : Result (Unit {0}) NoMemory) (old new : Broker) (before after : Option (ClientState GroupPlace)) (now : ℕ) (piece : List ℕ) (said : List StepOutput)
-    → Receives Calls slot_of old before now piece said result after new → Ran result old said new
-received (Ok done) old new before after now piece said does = by_calls (Ok done) old new said (receives_told Calls slot_of before old new now piece said after does)
-received (Err error) old new before after now piece said does = cut_short error old new said (receives Calls slot_of (Err error) before old new now piece said after does)
+received : (result : Result (Unit {0}) NoMemory) (old new : Broker) (before after : Option (ClientState GroupPlace)) (now : ℕ) (piece : List ℕ) (outputs : List StepOutput)
+    → Receives Calls slot_of old before now piece outputs result after new → Ran result old outputs new
+received (Ok done) old new before after now piece outputs does = by_calls (Ok done) old new outputs (receives_told Calls slot_of before old new now piece outputs after does)
+received (Err error) old new before after now piece outputs does = cut_short error old new outputs (receives Calls slot_of (Err error) before old new now piece outputs after does)
 
-ticked : (result : Result (Unit {0}) NoMemory) (old new : Broker) (before after : Option (ClientState GroupPlace)) (now : ℕ) (said : List StepOutput)
-    → TicksFor Calls slot_of old before now said result after new → Ran result old said new
-ticked (Ok done) old new before after now said does = by_calls (Ok done) old new said (ticks_told Calls slot_of before old new now said after does)
-ticked (Err error) old new before after now said does = cut_short error old new said (ticks_for Calls slot_of (Err error) before old new now said after does)
+ticked : (result : Result (Unit {0}) NoMemory) (old new : Broker) (before after : Option (ClientState GroupPlace)) (now : ℕ) (outputs : List StepOutput)
+    → TicksFor Calls slot_of old before now outputs result after new → Ran result old outputs new
+ticked (Ok done) old new before after now outputs does = by_calls (Ok done) old new outputs (ticks_told Calls slot_of before old new now outputs after does)
+ticked (Err error) old new before after now outputs does = cut_short error old new outputs (ticks_for Calls slot_of (Err error) before old new now outputs after does)
 
-ended : (result : Result (Unit {0}) NoMemory) (old new : Broker) (before after : Option (ClientState GroupPlace)) (now : ℕ) (input : Input) (said : List StepOutput)
-    → EndsFor Calls slot_of old before now input said result after new → Ran result old said new
-ended (Ok done) old new before after now input said does = by_calls (Ok done) old new said (ends_told Calls slot_of before old new now input said after does)
-ended (Err error) old new before after now input said does = cut_short error old new said (ends_for Calls slot_of (Err error) before old new now input said after does)
+ended : (result : Result (Unit {0}) NoMemory) (old new : Broker) (before after : Option (ClientState GroupPlace)) (now : ℕ) (input : Input) (outputs : List StepOutput)
+    → EndsFor Calls slot_of old before now input outputs result after new → Ran result old outputs new
+ended (Ok done) old new before after now input outputs does = by_calls (Ok done) old new outputs (ends_told Calls slot_of before old new now input outputs after does)
+ended (Err error) old new before after now input outputs does = cut_short error old new outputs (ends_for Calls slot_of (Err error) before old new now input outputs after does)
 
 -- the close
-ended_at : (number : ℕ) (result : Result (Unit {0}) NoMemory) (old new : Broker) (clients clients' : Clients) (now : ℕ) (said : List StepOutput)
-    → EndsAt number old clients now said result clients' new → Ran result old said new
-ended_at number result old new clients clients' now said ends = ended result old new ends.before ends.after now inputs.Closing said ends.becomes
+ended_at : (number : ℕ) (result : Result (Unit {0}) NoMemory) (old new : Broker) (clients clients' : Clients) (now : ℕ) (outputs : List StepOutput)
+    → EndsAt number old clients now outputs result clients' new → Ran result old outputs new
+ended_at number result old new clients clients' now outputs ends = ended result old new ends.before ends.after now inputs.Closing outputs ends.becomes
 
-first_ended : (number : ℕ) (old new : Broker) (clients clients' : Clients) (now : ℕ) (said : List StepOutput) (result : Result (Unit {0}) NoMemory)
-    → EndsFirst number old clients now said result clients' new → Ran result old said new
-first_ended zero old new clients clients' now said result ends = still result old new said ends.0 ends.3
-first_ended (suc number) old new clients clients' now said result ends =
-    subst (λ r. Ran r old said new) (sym ends.9)
-    (behind ends.4 ends.5 old ends.0 new ends.2 ends.3 said ends.8 (first_ended number old ends.0 clients ends.1 now ends.2 ends.4 ends.6) (ended_at number ends.5 ends.0 new ends.1 clients' now ends.3 ends.7))
+first_ended : (number : ℕ) (old new : Broker) (clients clients' : Clients) (now : ℕ) (outputs : List StepOutput) (result : Result (Unit {0}) NoMemory)
+    → EndsFirst number old clients now outputs result clients' new → Ran result old outputs new
+first_ended zero old new clients clients' now outputs result ends = still result old new outputs ends.0 ends.3
+first_ended (suc number) old new clients clients' now outputs result ends =
+    subst (λ r. Ran r old outputs new) (sym ends.9)
+    (behind ends.4 ends.5 old ends.0 new ends.2 ends.3 outputs ends.8 (first_ended number old ends.0 clients ends.1 now ends.2 ends.4 ends.6) (ended_at number ends.5 ends.0 new ends.1 clients' now ends.3 ends.7))
 
-pub each_ended : (number : ℕ) (old new : Broker) (clients clients' : Clients) (now : ℕ) (said : List StepOutput) (result : Result (Unit {0}) NoMemory)
-    → EndsFirst number old clients now said result clients' new → IsReachedBy old new
-each_ended number old new clients clients' now said result ends = let run = first_ended number old new clients clients' now said result ends in (run.happenings, run.led)
+pub each_ended : (number : ℕ) (old new : Broker) (clients clients' : Clients) (now : ℕ) (outputs : List StepOutput) (result : Result (Unit {0}) NoMemory)
+    → EndsFirst number old clients now outputs result clients' new → IsReachedBy old new
+each_ended number old new clients clients' now outputs result ends = let run = first_ended number old new clients clients' now outputs result ends in (run.happenings, run.led)
 
 all_closed : (old closed : Broker) → Closes old closed → Ran (Ok tt) old [] closed
 all_closed old closed closes = record { happenings = Closed ∷ []; led = (closed, closes, refl); told = λ ok. record { outcomes = []; handed_out = refl; sent = refl } }
 
-closed : (result : Result (Unit {0}) NoMemory) (old new : Broker) (clients clients' : Clients) (now : ℕ) (said : List StepOutput)
-    → ClosesAll old clients now said result clients' new → Ran result old said new
-closed result old new clients clients' now said closes =
-    behind (Ok tt) result old closes.0 new [] said said refl (all_closed old closes.0 closes.1) (first_ended closes.2 closes.0 new clients clients' now said result closes.4)
+closed : (result : Result (Unit {0}) NoMemory) (old new : Broker) (clients clients' : Clients) (now : ℕ) (outputs : List StepOutput)
+    → ClosesAll old clients now outputs result clients' new → Ran result old outputs new
+closed result old new clients clients' now outputs closes =
+    behind (Ok tt) result old closes.0 new [] outputs outputs refl (all_closed old closes.0 closes.1) (first_ended closes.2 closes.0 new clients clients' now outputs result closes.4)
 
-does : (max_inflight : ℕ) (event : ServerEvent) (old new : Broker) (clients clients' : Clients) (now : ℕ) (said : List StepOutput) (result : Result (Unit {0}) NoMemory)
-    → Does event max_inflight old clients now said result clients' new → Ran result old said new
-does max_inflight (events.Open number) old new clients clients' now said result done = still result old new said done.2 done.1
-does max_inflight (events.Bytes number piece) old new clients clients' now said result done = received result old new done.before done.after now piece said done.becomes
-does max_inflight (events.Tick number) old new clients clients' now said result done = ticked result old new done.before done.after now said done.becomes
-does max_inflight (events.End number) old new clients clients' now said result done = ended result old new done.before done.after now inputs.EndOfInput said done.becomes
-does max_inflight events.Close old new clients clients' now said result done = closed result old new clients clients' now said done
+does : (max_inflight : ℕ) (event : ServerEvent) (old new : Broker) (clients clients' : Clients) (now : ℕ) (outputs : List StepOutput) (result : Result (Unit {0}) NoMemory)
+    → Does event max_inflight old clients now outputs result clients' new → Ran result old outputs new
+does max_inflight (events.Open number) old new clients clients' now outputs result done = still result old new outputs done.2 done.1
+does max_inflight (events.Bytes number piece) old new clients clients' now outputs result done = received result old new done.before done.after now piece outputs done.becomes
+does max_inflight (events.Tick number) old new clients clients' now outputs result done = ticked result old new done.before done.after now outputs done.becomes
+does max_inflight (events.End number) old new clients clients' now outputs result done = ended result old new done.before done.after now inputs.EndOfInput outputs done.becomes
+does max_inflight events.Close old new clients clients' now outputs result done = closed result old new clients clients' now outputs done
 
-does_if : (max_inflight : ℕ) (open? : Bool) (event : ServerEvent) (old new : Broker) (clients clients' : Clients) (now : ℕ) (said : List StepOutput) (result : Result (Unit {0}) NoMemory)
-    → DoesIf open? event max_inflight old clients now said result clients' new → Ran result old said new
-does_if max_inflight true event old new clients clients' now said result done = does max_inflight event old new clients clients' now said result done
-does_if max_inflight false event old new clients clients' now said result done = still result old new said done.0 done.3
+does_if : (max_inflight : ℕ) (open? : Bool) (event : ServerEvent) (old new : Broker) (clients clients' : Clients) (now : ℕ) (outputs : List StepOutput) (result : Result (Unit {0}) NoMemory)
+    → DoesIf open? event max_inflight old clients now outputs result clients' new → Ran result old outputs new
+does_if max_inflight true event old new clients clients' now outputs result done = does max_inflight event old new clients clients' now outputs result done
+does_if max_inflight false event old new clients clients' now outputs result done = still result old new outputs done.0 done.3
 
-ran : (moment : ℕ) (event : ServerEvent) (said : List StepOutput) (result : Result (Unit {0}) NoMemory) (old new : ServerState) → Happens old moment event said result new → Ran result old.broker said new.broker
-ran moment event said result old new happens = does_if _ (is_open old.broker) event old.broker new.broker old.clients new.clients new.clock said result happens.does
+ran : (moment : ℕ) (event : ServerEvent) (outputs : List StepOutput) (result : Result (Unit {0}) NoMemory) (old new : ServerState) → Happens old moment event outputs result new → Ran result old.broker outputs new.broker
+ran moment event outputs result old new happens = does_if _ (is_open old.broker) event old.broker new.broker old.clients new.clients new.clock outputs result happens.does
 
-pub happened : (moment : ℕ) (event : ServerEvent) (said : List StepOutput) (result : Result (Unit {0}) NoMemory) (old new : ServerState) → Happens old moment event said result new → IsReachedBy old.broker new.broker
-happened moment event said result old new happens = let run = ran moment event said result old new happens in (run.happenings, run.led)
+pub happened : (moment : ℕ) (event : ServerEvent) (outputs : List StepOutput) (result : Result (Unit {0}) NoMemory) (old new : ServerState) → Happens old moment event outputs result new → IsReachedBy old.broker new.broker
+happened moment event outputs result old new happens = let run = ran moment event outputs result old new happens in (run.happenings, run.led)
 
-all_ran : (events : List TimedEvent) (said : List StepOutput) (old new : ServerState) → HappensAll old events said new → Ran (Ok tt) old.broker said new.broker
-all_ran [] said old new all = still (Ok tt) old.broker new.broker said all.0 (ap (λ s. s.broker) all.1)
-all_ran (first ∷ others) said old new all =
-    behind (Ok tt) (Ok tt) old.broker all.0.broker new.broker all.1 all.2 said all.5 (ran first.moment first.event all.1 (Ok tt) old all.0 all.3) (all_ran others all.2 all.0 new all.4)
+all_ran : (events : List TimedEvent) (outputs : List StepOutput) (old new : ServerState) → HappensAll old events outputs new → Ran (Ok tt) old.broker outputs new.broker
+all_ran [] outputs old new all = still (Ok tt) old.broker new.broker outputs all.0 (ap (λ s. s.broker) all.1)
+all_ran (first ∷ others) outputs old new all =
+    behind (Ok tt) (Ok tt) old.broker all.0.broker new.broker all.1 all.2 outputs all.5 (ran first.moment first.event all.1 (Ok tt) old all.0 all.3) (all_ran others all.2 all.0 new all.4)
 
-pub all_happened : (events : List TimedEvent) (said : List StepOutput) (old new : ServerState) → HappensAll old events said new → IsReachedBy old.broker new.broker
-all_happened events said old new all = let run = all_ran events said old new all in (run.happenings, run.led)
+pub all_happened : (events : List TimedEvent) (outputs : List StepOutput) (old new : ServerState) → HappensAll old events outputs new → IsReachedBy old.broker new.broker
+all_happened events outputs old new all = let run = all_ran events outputs old new all in (run.happenings, run.led)
 
 -- the same, whether an allocation failed or not
 pub undergone : (events : List TimedEvent) (old new : ServerState) → GoesThrough old events new → IsReachedBy old.broker new.broker
@@ -174,14 +174,14 @@ undergone (first ∷ others) old new all =
     let rest = undergone others all.0 new all.4 in
     (one.0 ++ rest.0, joins one.0 rest.0 old.broker all.0.broker new.broker one.1 rest.1)
 
-pub undergoes : (events : List TimedEvent) (said : List StepOutput) (old new : ServerState) → HappensAll old events said new → GoesThrough old events new
-undergoes [] said old new all = all.1
-undergoes (first ∷ others) said old new all = (all.0, all.1, Ok tt, all.3, undergoes others all.2 all.0 new all.4)
+pub undergoes : (events : List TimedEvent) (outputs : List StepOutput) (old new : ServerState) → HappensAll old events outputs new → GoesThrough old events new
+undergoes [] outputs old new all = all.1
+undergoes (first ∷ others) outputs old new all = (all.0, all.1, Ok tt, all.3, undergoes others all.2 all.0 new all.4)
 
 -- what is handed out in a run is what is said
-pub hands : (setup : Setup) (events : List TimedEvent) (said : List StepOutput) (first last : ServerState) → IsNewServer setup first → HappensAll first events said last → HandsOutWhatIsSent last said
-hands setup events said first last new all =
-    let run = all_ran events said first last all in
+pub hands : (setup : Setup) (events : List TimedEvent) (outputs : List StepOutput) (first last : ServerState) → IsNewServer setup first → HappensAll first events outputs last → HandsOutWhatIsSent last outputs
+hands setup events outputs first last new all =
+    let run = all_ran events outputs first last all in
     let told = run.told refl in
     record {
       outcomes = told.outcomes;
@@ -202,17 +202,17 @@ desk setup events first last new all =
     law_all_along led.0 first.broker last.broker (new_desk setup.capacity setup.groups first.broker new.broker) led.1
 
 -- after the close
-passed : (moment : ℕ) (event : ServerEvent) (said : List StepOutput) (old new : ServerState) → is_open old.broker ≡ false → Happens old moment event said (Ok tt) new
-    → (said ≡ []) × (new.broker ≡ old.broker) × (new.clients ≡ old.clients)
-passed moment event said old new shut happens =
-    let done : DoesIf false event old.max_inflight old.broker old.clients new.clock said (Ok tt) new.clients new.broker =
-    subst (λ b. DoesIf b event old.max_inflight old.broker old.clients new.clock said (Ok tt) new.clients new.broker) shut happens.does in
+passed : (moment : ℕ) (event : ServerEvent) (outputs : List StepOutput) (old new : ServerState) → is_open old.broker ≡ false → Happens old moment event outputs (Ok tt) new
+    → (outputs ≡ []) × (new.broker ≡ old.broker) × (new.clients ≡ old.clients)
+passed moment event outputs old new shut happens =
+    let done : DoesIf false event old.max_inflight old.broker old.clients new.clock outputs (Ok tt) new.clients new.broker =
+    subst (λ b. DoesIf b event old.max_inflight old.broker old.clients new.clock outputs (Ok tt) new.clients new.broker) shut happens.does in
     (done.0, done.3, done.2)
 
-pub all_passed : (events : List TimedEvent) (said : List StepOutput) (old new : ServerState) → is_open old.broker ≡ false → HappensAll old events said new
-    → (said ≡ []) × (new.broker ≡ old.broker) × (new.clients ≡ old.clients)
-all_passed [] said old new shut all = (all.0, ap (λ s. s.broker) all.1, ap (λ s. s.clients) all.1)
-all_passed (first ∷ others) said old new shut all =
+pub all_passed : (events : List TimedEvent) (outputs : List StepOutput) (old new : ServerState) → is_open old.broker ≡ false → HappensAll old events outputs new
+    → (outputs ≡ []) × (new.broker ≡ old.broker) × (new.clients ≡ old.clients)
+all_passed [] outputs old new shut all = (all.0, ap (λ s. s.broker) all.1, ap (λ s. s.clients) all.1)
+all_passed (first ∷ others) outputs old new shut all =
     let one = passed first.moment first.event all.1 old all.0 shut all.3 in
     let rest = all_passed others all.2 all.0 new (ap is_open one.1 ∙ shut) all.4 in
     (all.5 ∙ ap (λ xs. xs ++ all.2) one.0 ∙ rest.0, rest.1 ∙ one.1, rest.2 ∙ one.2)

@@ -76,10 +76,10 @@ one_more_below count clients these those below last number =
     (cases_eq number count)
 
 -- those from this number on are as they were
-pub untouched : (count number : ℕ) (old new : Broker) (clients clients' : Clients) (now : ℕ) (said : List StepOutput) (result : Result (Unit {0}) NoMemory) → count ≤ number
-    → EndsFirst count old clients now said result clients' new → client_at clients' number ≡ client_at clients number
-untouched zero number old new clients clients' now said result from ends = ap (λ (c : Clients). client_at c number) ends.2
-untouched (suc count) number old new clients clients' now said result from ends =
+pub untouched : (count number : ℕ) (old new : Broker) (clients clients' : Clients) (now : ℕ) (outputs : List StepOutput) (result : Result (Unit {0}) NoMemory) → count ≤ number
+    → EndsFirst count old clients now outputs result clients' new → client_at clients' number ≡ client_at clients number
+untouched zero number old new clients clients' now outputs result from ends = ap (λ (c : Clients). client_at c number) ends.2
+untouched (suc count) number old new clients clients' now outputs result from ends =
     let cell = ends.7 in
     ap (λ (c : Clients). client_at c number) cell.is ∙ ap open_in (slice_get-set_other ends.1 count number cell.after (λ same. absurd (omega (arith, from, same))))
     ∙ untouched count number old ends.0 clients ends.1 now ends.2 ends.4 (omega (arith, from)) ends.6

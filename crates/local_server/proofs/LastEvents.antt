@@ -36,24 +36,24 @@ reacts (Waiting request ticks) between old new number now reply is = (is.1.over,
 reacts (Connected connected) between old new number now reply is = (is.2, is.1.1.groups)
 reacts Ended between old new number now reply is = (is.0.over, ap (λ b. b.groups) is.1)
 
-moves : (client client' : ClientState GroupPlace) (old new : Broker) (now : ℕ) (said : StepOutput) → ClientSteps Calls slot_of old client now inputs.Closing said client' new → Keep old new
-moves client client' old new now said moved =
+moves : (client client' : ClientState GroupPlace) (old new : Broker) (now : ℕ) (output : StepOutput) → ClientSteps Calls slot_of old client now inputs.Closing output client' new → Keep old new
+moves client client' old new now output moved =
     let steps = moved.stepped in
     let told = reacts client.conn.phase steps.between old steps.mid client.conn.number (moment_of client now) steps.reply steps.reacts in
     let none : Hands Calls slot_of steps.mid Ended (moment_of client now) steps.sent client'.conn.phase new =
     subst (λ s. Hands Calls slot_of steps.mid s (moment_of client now) steps.sent client'.conn.phase new) told.0 steps.hands in
     ap (λ b. b.groups) none.2 ∙ told.1
 
-ends : (result : Result (Unit {0}) NoMemory) (before : Option (ClientState GroupPlace)) (old new : Broker) (now : ℕ) (said : List StepOutput) (after : Option (ClientState GroupPlace))
-    → IsOk result → EndsFor Calls slot_of old before now inputs.Closing said result after new → Keep old new
-ends (Ok done) None old new now said after ok does = ap (λ b. b.groups) does.2
-ends (Ok done) (Some client) old new now said after ok does = moves client does.0 old new now does.1.0 does.1.2
-ends (Err error) before old new now said after ok does = absurd (false≢true ok)
+ends : (result : Result (Unit {0}) NoMemory) (before : Option (ClientState GroupPlace)) (old new : Broker) (now : ℕ) (outputs : List StepOutput) (after : Option (ClientState GroupPlace))
+    → IsOk result → EndsFor Calls slot_of old before now inputs.Closing outputs result after new → Keep old new
+ends (Ok done) None old new now outputs after ok does = ap (λ b. b.groups) does.2
+ends (Ok done) (Some client) old new now outputs after ok does = moves client does.0 old new now does.1.0 does.1.2
+ends (Err error) before old new now outputs after ok does = absurd (false≢true ok)
 
-all_end : (number : ℕ) (old new : Broker) (clients clients' : Clients) (now : ℕ) (said : List StepOutput) (result : Result (Unit {0}) NoMemory)
-    → IsOk result → EndsFirst number old clients now said result clients' new → Keep old new
-all_end zero old new clients clients' now said result ok all = ap (λ b. b.groups) all.3
-all_end (suc number) old new clients clients' now said result ok all =
+all_end : (number : ℕ) (old new : Broker) (clients clients' : Clients) (now : ℕ) (outputs : List StepOutput) (result : Result (Unit {0}) NoMemory)
+    → IsOk result → EndsFirst number old clients now outputs result clients' new → Keep old new
+all_end zero old new clients clients' now outputs result ok all = ap (λ b. b.groups) all.3
+all_end (suc number) old new clients clients' now outputs result ok all =
     let both : IsOk (result_and all.4 all.5) = subst IsOk all.9 ok in
     ends all.5 all.7.before all.0 new now all.3 all.7.after (then_ok all.4 all.5 both) all.7.becomes
     ∙ all_end number old all.0 clients all.1 now all.2 all.4 (first_ok all.4 all.5 both) all.6
@@ -94,12 +94,12 @@ added old mid new adds keeps =
       each = λ slot group there. adds.each slot group (ap (λ (l : List Group). slice_get l slot) (sym keeps) ∙ there);
     }
 
-closes_if : (going : Bool) (old new : ServerState) (said : List StepOutput) → going ≡ true → is_open old.broker ≡ true
-    → DoesIf going events.Close old.max_inflight old.broker old.clients new.clock said (Ok tt) new.clients new.broker → AllAddTheClose old.broker new.broker
-closes_if true old new said going opens does =
-    added old.broker does.0 new.broker (closed_once old.broker does.0 opens does.1.groups) (all_end does.2 does.0 new.broker old.clients new.clients new.clock said (Ok tt) refl does.4)
-closes_if false old new said going opens does = absurd (cc)
+closes_if : (going : Bool) (old new : ServerState) (outputs : List StepOutput) → going ≡ true → is_open old.broker ≡ true
+    → DoesIf going events.Close old.max_inflight old.broker old.clients new.clock outputs (Ok tt) new.clients new.broker → AllAddTheClose old.broker new.broker
+closes_if true old new outputs going opens does =
+    added old.broker does.0 new.broker (closed_once old.broker does.0 opens does.1.groups) (all_end does.2 does.0 new.broker old.clients new.clients new.clock outputs (Ok tt) refl does.4)
+closes_if false old new outputs going opens does = absurd (cc)
 
-pub closed_last : (moment : ℕ) (said : List StepOutput) (old new : ServerState)
-    → is_open old.broker ≡ true → Happens old moment events.Close said (Ok tt) new → AllAddTheClose old.broker new.broker
-closed_last moment said old new opens happens = closes_if (is_open old.broker) old new said opens opens happens.does
+pub closed_last : (moment : ℕ) (outputs : List StepOutput) (old new : ServerState)
+    → is_open old.broker ≡ true → Happens old moment events.Close outputs (Ok tt) new → AllAddTheClose old.broker new.broker
+closed_last moment outputs old new opens happens = closes_if (is_open old.broker) old new outputs opens opens happens.does

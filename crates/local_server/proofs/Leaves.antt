@@ -54,12 +54,12 @@ if_open false event old new steps number taken =
     subst (λ (s : List TakenStep). LeadOn (phase_of (client_at old.clients number)) (steps_of number s) (phase_of (client_at new.clients number))) (sym taken.0)
     (inl (ap (λ (c : Clients). phase_of (client_at c number)) taken.2))
 
-in_run : (events : List TimedEvent) (said : List StepOutput) (old new : ServerState) (number : ℕ) (run : HappensAll old events said new) (steps : List TakenStep)
-    → AllAreTaken old events said new run steps → LeadOn (phase_of (client_at old.clients number)) (steps_of number steps) (phase_of (client_at new.clients number))
-in_run [] said old new number run steps taken =
+in_run : (events : List TimedEvent) (outputs : List StepOutput) (old new : ServerState) (number : ℕ) (run : HappensAll old events outputs new) (steps : List TakenStep)
+    → AllAreTaken old events outputs new run steps → LeadOn (phase_of (client_at old.clients number)) (steps_of number steps) (phase_of (client_at new.clients number))
+in_run [] outputs old new number run steps taken =
     subst (λ (s : List TakenStep). LeadOn (phase_of (client_at old.clients number)) (steps_of number s) (phase_of (client_at new.clients number))) (sym taken)
     (inl (ap (λ (s : ServerState). phase_of (client_at s.clients number)) run.1))
-in_run (event ∷ others) said old new number run steps taken =
+in_run (event ∷ others) outputs old new number run steps taken =
     let mid = run.0 in
     subst (λ (s : List TakenStep). LeadOn (phase_of (client_at old.clients number)) s (phase_of (client_at new.clients number)))
     (sym (ap (steps_of number) taken.4 ∙ filter-append (λ (step : TakenStep). nat_eq step.connection number) taken.0 taken.1))
@@ -103,8 +103,8 @@ from_steps steps before after leads lawful =
           (leads_behind earlier (between ++ step ∷ later) left before after (subst (λ (s : List TakenStep). LeadOn before s after) are leads)) behind.1 stays no_join;
     }
 
-pub in_whole_run : (events : List TimedEvent) (said : List StepOutput) (first last : ServerState) (run : HappensAll first events said last) (steps : List TakenStep)
-    → AllAreTaken first events said last run steps → (number : ℕ) → HandsNothingToWhoLeft (steps_of number steps)
-in_whole_run events said first last run steps taken number =
-    from_steps (steps_of number steps) (phase_of (client_at first.clients number)) (phase_of (client_at last.clients number)) (in_run events said first last number run steps taken)
-    (lawful_of number steps (all_lawful events said first last run steps taken))
+pub in_whole_run : (events : List TimedEvent) (outputs : List StepOutput) (first last : ServerState) (run : HappensAll first events outputs last) (steps : List TakenStep)
+    → AllAreTaken first events outputs last run steps → (number : ℕ) → HandsNothingToWhoLeft (steps_of number steps)
+in_whole_run events outputs first last run steps taken number =
+    from_steps (steps_of number steps) (phase_of (client_at first.clients number)) (phase_of (client_at last.clients number)) (in_run events outputs first last number run steps taken)
+    (lawful_of number steps (all_lawful events outputs first last run steps taken))

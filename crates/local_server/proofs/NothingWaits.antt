@@ -177,10 +177,10 @@ if_open : (open? : Bool) (event : ServerEvent) (old new : ServerState) (steps : 
 if_open true event old new steps is lawful taken = in_event event old new steps is lawful taken
 if_open false event old new steps is lawful taken = subst (AllByRecursion LeavesNothing) (sym taken.0) tt
 
-pub in_whole_run : (events : List TimedEvent) (said : List StepOutput) (old new : ServerState) (run : HappensAll old events said new) (steps : List TakenStep) → AllAreTaken old events said new run steps
+pub in_whole_run : (events : List TimedEvent) (outputs : List StepOutput) (old new : ServerState) (run : HappensAll old events outputs new) (steps : List TakenStep) → AllAreTaken old events outputs new run steps
     → AllByRecursion LeavesNothing steps
-in_whole_run [] said old new run steps taken = subst (AllByRecursion LeavesNothing) (sym taken) tt
-in_whole_run (event ∷ others) said old new run steps taken =
+in_whole_run [] outputs old new run steps taken = subst (AllByRecursion LeavesNothing) (sym taken) tt
+in_whole_run (event ∷ others) outputs old new run steps taken =
     subst (AllByRecursion LeavesNothing) (sym taken.4)
     (all_of_both LeavesNothing taken.0 taken.1 (if_open (is_open old.broker) event.event old run.0 taken.0 refl taken.2.lawful taken.2.lead)
     (in_whole_run others run.2 run.0 new run.4 taken.1 taken.3))

@@ -42,7 +42,7 @@ then_done (Err error) then is = absurd (cc)
 
 -- so many connections are told, and an allocation fails for none
 abbrev FirstDone : ℕ → Broker → Clients → ℕ → List StepOutput → Clients → Broker → Type 0
-FirstDone number old clients now said clients' new = EndsFirst number old clients now said (Ok tt) clients' new
+FirstDone number old clients now outputs clients' new = EndsFirst number old clients now outputs (Ok tt) clients' new
 
 ended_first : (number : ℕ) (a a' b b' : Broker) (clients c d : Clients) (now : ℕ) (xs ys : List StepOutput) → AreLawful a b
     → FirstDone number a clients now xs c a' → FirstDone number b clients now ys d b' → AreOne xs ys c d a' b'

@@ -202,13 +202,13 @@ if_open false event old new steps number named taken lawful short fit =
 
 -- ---- a run
 
-in_run : (events : List TimedEvent) (said : List StepOutput) (old new : ServerState) (number : ℕ) (named : Option ℕ) (run : HappensAll old events said new) (steps : List TakenStep)
-    → AllAreTaken old events said new run steps → AllShort said → IsFit named (phase_of (client_at old.clients number)) → AllFit named (steps_of number steps)
-in_run [] said old new number named run steps taken short fit = subst (λ (s : List TakenStep). AllFit named (steps_of number s)) (sym taken) (none_fit named)
-in_run (event ∷ others) said old new number named run steps taken short fit =
+in_run : (events : List TimedEvent) (outputs : List StepOutput) (old new : ServerState) (number : ℕ) (named : Option ℕ) (run : HappensAll old events outputs new) (steps : List TakenStep)
+    → AllAreTaken old events outputs new run steps → AllShort outputs → IsFit named (phase_of (client_at old.clients number)) → AllFit named (steps_of number steps)
+in_run [] outputs old new number named run steps taken short fit = subst (λ (s : List TakenStep). AllFit named (steps_of number s)) (sym taken) (none_fit named)
+in_run (event ∷ others) outputs old new number named run steps taken short fit =
     let mid = run.0 in
     let both = parts (λ (output : StepOutput). AllByRecursion IsShort output.packets) run.1 run.2 (subst AllShort run.5 short) in
-    let first = if_open (is_open old.broker) event.event old mid taken.0 number named taken.2.lead taken.2.lawful (short_steps taken.0 (subst AllShort taken.2.outputs both.0)) fit in
+    let first = if_open (is_open old.broker) event.event old mid taken.0 number named taken.2.lead taken.2.lawful (short_steps taken.0 (subst AllShort taken.2.outputs_are both.0)) fit in
     subst (AllFit named) (sym (ap (steps_of number) taken.4 ∙ filter-append (λ (step : TakenStep). nat_eq step.connection number) taken.0 taken.1))
     (along_both (steps_of number taken.0) (steps_of number taken.1) named first.0
     (in_run others run.2 mid new number (named_after named (steps_of number taken.0)) run.4 taken.1 taken.3 both.1 first.1))
@@ -222,15 +222,15 @@ new_fit : (setup : Setup) (server : ServerState) → IsNewServer setup server �
 new_fit setup server new number =
     subst (λ (c : Option (ClientState GroupPlace)). IsFit None (phase_of c)) (sym (ap (λ (l : Clients). client_at l number) new.clients ∙ none_at 64 number)) (tt, tt)
 
-in_whole_run : (setup : Setup) (events : List TimedEvent) (said : List StepOutput) (first last : ServerState) → IsNewServer setup first → (run : HappensAll first events said last)
-    → (steps : List TakenStep) → AllAreTaken first events said last run steps → (number : ℕ) → AllFit None (steps_of number steps)
-in_whole_run setup events said first last new run steps taken number =
-    in_run events said first last number None run steps taken (shortness setup events said first last new run) (new_fit setup first new number)
+in_whole_run : (setup : Setup) (events : List TimedEvent) (outputs : List StepOutput) (first last : ServerState) → IsNewServer setup first → (run : HappensAll first events outputs last)
+    → (steps : List TakenStep) → AllAreTaken first events outputs last run steps → (number : ℕ) → AllFit None (steps_of number steps)
+in_whole_run setup events outputs first last new run steps taken number =
+    in_run events outputs first last number None run steps taken (shortness setup events outputs first last new run) (new_fit setup first new number)
 
-pub each_fits : (setup : Setup) (events : List TimedEvent) (said : List StepOutput) (first last : ServerState) → IsNewServer setup first → (run : HappensAll first events said last)
-    → (steps : List TakenStep) → AllAreTaken first events said last run steps → AllByRecursion SendsWhatFits steps
-each_fits setup events said first last new run steps taken = of_each SendsWhatFits steps (λ number. (in_whole_run setup events said first last new run steps taken number).0)
+pub each_fits : (setup : Setup) (events : List TimedEvent) (outputs : List StepOutput) (first last : ServerState) → IsNewServer setup first → (run : HappensAll first events outputs last)
+    → (steps : List TakenStep) → AllAreTaken first events outputs last run steps → AllByRecursion SendsWhatFits steps
+each_fits setup events outputs first last new run steps taken = of_each SendsWhatFits steps (λ number. (in_whole_run setup events outputs first last new run steps taken number).0)
 
-pub all_along : (setup : Setup) (events : List TimedEvent) (said : List StepOutput) (first last : ServerState) → IsNewServer setup first → (run : HappensAll first events said last)
-    → (steps : List TakenStep) → AllAreTaken first events said last run steps → (number : ℕ) → FitTheirConnects None (steps_of number steps)
-all_along setup events said first last new run steps taken number = (in_whole_run setup events said first last new run steps taken number).1
+pub all_along : (setup : Setup) (events : List TimedEvent) (outputs : List StepOutput) (first last : ServerState) → IsNewServer setup first → (run : HappensAll first events outputs last)
+    → (steps : List TakenStep) → AllAreTaken first events outputs last run steps → (number : ℕ) → FitTheirConnects None (steps_of number steps)
+all_along setup events outputs first last new run steps taken number = (in_whole_run setup events outputs first last new run steps taken number).1

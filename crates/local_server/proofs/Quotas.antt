@@ -50,41 +50,41 @@ in_cell old new number Becomes keeps cell all =
     let before = cell_of IsCellWithinQuota old number cell.before cell.has all in
     subst AllWithinQuota (sym cell.is) (set_of IsCellWithinQuota old number cell.after (keeps cell.before cell.after cell.becomes before) all)
 
-ended : (number : ℕ) (old new : Broker) (clients clients' : Clients) (now : ℕ) (said : List StepOutput) (result : Result (Unit {0}) NoMemory)
-    → EndsAt number old clients now said result clients' new → AllWithinQuota clients → AllWithinQuota clients'
-ended number old new clients clients' now said result ends all =
-    in_cell clients clients' number _ (λ before after is within. ends_for Calls slot_of IsWithinQuota tt (steps.within Calls slot_of) result before old new now inputs.Closing said after is within) ends all
+ended : (number : ℕ) (old new : Broker) (clients clients' : Clients) (now : ℕ) (outputs : List StepOutput) (result : Result (Unit {0}) NoMemory)
+    → EndsAt number old clients now outputs result clients' new → AllWithinQuota clients → AllWithinQuota clients'
+ended number old new clients clients' now outputs result ends all =
+    in_cell clients clients' number _ (λ before after is within. ends_for Calls slot_of IsWithinQuota tt (steps.within Calls slot_of) result before old new now inputs.Closing outputs after is within) ends all
 
-first_ended : (number : ℕ) (old new : Broker) (clients clients' : Clients) (now : ℕ) (said : List StepOutput) (result : Result (Unit {0}) NoMemory)
-    → EndsFirst number old clients now said result clients' new → AllWithinQuota clients → AllWithinQuota clients'
-first_ended zero old new clients clients' now said result ends all = subst AllWithinQuota (sym ends.2) all
-first_ended (suc number) old new clients clients' now said result ends all =
+first_ended : (number : ℕ) (old new : Broker) (clients clients' : Clients) (now : ℕ) (outputs : List StepOutput) (result : Result (Unit {0}) NoMemory)
+    → EndsFirst number old clients now outputs result clients' new → AllWithinQuota clients → AllWithinQuota clients'
+first_ended zero old new clients clients' now outputs result ends all = subst AllWithinQuota (sym ends.2) all
+first_ended (suc number) old new clients clients' now outputs result ends all =
     ended number ends.0 new ends.1 clients' now ends.3 ends.5 ends.7 (first_ended number old ends.0 clients ends.1 now ends.2 ends.4 ends.6 all)
 
-closed : (old new : Broker) (clients clients' : Clients) (now : ℕ) (said : List StepOutput) (result : Result (Unit {0}) NoMemory) → ClosesAll old clients now said result clients' new
+closed : (old new : Broker) (clients clients' : Clients) (now : ℕ) (outputs : List StepOutput) (result : Result (Unit {0}) NoMemory) → ClosesAll old clients now outputs result clients' new
     → AllWithinQuota clients → AllWithinQuota clients'
-closed old new clients clients' now said result closes all = first_ended closes.2 closes.0 new clients clients' now said result closes.4 all
+closed old new clients clients' now outputs result closes all = first_ended closes.2 closes.0 new clients clients' now outputs result closes.4 all
 
-does : (max_inflight : ℕ) (event : ServerEvent) (old new : Broker) (clients clients' : Clients) (now : ℕ) (said : List StepOutput) (result : Result (Unit {0}) NoMemory)
-    → Does event max_inflight old clients now said result clients' new → AllWithinQuota clients → AllWithinQuota clients'
-does max_inflight (events.Open number) old new clients clients' now said result done all =
+does : (max_inflight : ℕ) (event : ServerEvent) (old new : Broker) (clients clients' : Clients) (now : ℕ) (outputs : List StepOutput) (result : Result (Unit {0}) NoMemory)
+    → Does event max_inflight old clients now outputs result clients' new → AllWithinQuota clients → AllWithinQuota clients'
+does max_inflight (events.Open number) old new clients clients' now outputs result done all =
     in_cell clients clients' number _ (λ before after is within. opens number _ before after is within) done.0 all
-does max_inflight (events.Bytes number piece) old new clients clients' now said result done all =
-    in_cell clients clients' number _ (λ before after is within. receives Calls slot_of IsWithinQuota tt (steps.within Calls slot_of) result before old new now piece said after is within) done all
-does max_inflight (events.Tick number) old new clients clients' now said result done all =
-    in_cell clients clients' number _ (λ before after is within. ticks_for Calls slot_of IsWithinQuota tt (steps.within Calls slot_of) result before old new now said after is within) done all
-does max_inflight (events.End number) old new clients clients' now said result done all =
-    in_cell clients clients' number _ (λ before after is within. ends_for Calls slot_of IsWithinQuota tt (steps.within Calls slot_of) result before old new now inputs.EndOfInput said after is within) done all
-does max_inflight events.Close old new clients clients' now said result done all = closed old new clients clients' now said result done all
+does max_inflight (events.Bytes number piece) old new clients clients' now outputs result done all =
+    in_cell clients clients' number _ (λ before after is within. receives Calls slot_of IsWithinQuota tt (steps.within Calls slot_of) result before old new now piece outputs after is within) done all
+does max_inflight (events.Tick number) old new clients clients' now outputs result done all =
+    in_cell clients clients' number _ (λ before after is within. ticks_for Calls slot_of IsWithinQuota tt (steps.within Calls slot_of) result before old new now outputs after is within) done all
+does max_inflight (events.End number) old new clients clients' now outputs result done all =
+    in_cell clients clients' number _ (λ before after is within. ends_for Calls slot_of IsWithinQuota tt (steps.within Calls slot_of) result before old new now inputs.EndOfInput outputs after is within) done all
+does max_inflight events.Close old new clients clients' now outputs result done all = closed old new clients clients' now outputs result done all
 
-does_if : (max_inflight : ℕ) (going : Bool) (event : ServerEvent) (old new : Broker) (clients clients' : Clients) (now : ℕ) (said : List StepOutput) (result : Result (Unit {0}) NoMemory)
-    → DoesIf going event max_inflight old clients now said result clients' new → AllWithinQuota clients → AllWithinQuota clients'
-does_if max_inflight true event old new clients clients' now said result done all = does max_inflight event old new clients clients' now said result done all
-does_if max_inflight false event old new clients clients' now said result done all = subst AllWithinQuota (sym done.2) all
+does_if : (max_inflight : ℕ) (going : Bool) (event : ServerEvent) (old new : Broker) (clients clients' : Clients) (now : ℕ) (outputs : List StepOutput) (result : Result (Unit {0}) NoMemory)
+    → DoesIf going event max_inflight old clients now outputs result clients' new → AllWithinQuota clients → AllWithinQuota clients'
+does_if max_inflight true event old new clients clients' now outputs result done all = does max_inflight event old new clients clients' now outputs result done all
+does_if max_inflight false event old new clients clients' now outputs result done all = subst AllWithinQuota (sym done.2) all
 
-pub happened : (moment : ℕ) (event : ServerEvent) (said : List StepOutput) (result : Result (Unit {0}) NoMemory) (old new : ServerState) → Happens old moment event said result new
+pub happened : (moment : ℕ) (event : ServerEvent) (outputs : List StepOutput) (result : Result (Unit {0}) NoMemory) (old new : ServerState) → Happens old moment event outputs result new
     → AllWithinQuota old.clients → AllWithinQuota new.clients
-happened moment event said result old new happens all = does_if _ (is_open old.broker) event old.broker new.broker old.clients new.clients new.clock said result happens.does all
+happened moment event outputs result old new happens all = does_if _ (is_open old.broker) event old.broker new.broker old.clients new.clients new.clock outputs result happens.does all
 
 undergone : (events : List TimedEvent) (old new : ServerState) → GoesThrough old events new → AllWithinQuota old.clients → AllWithinQuota new.clients
 undergone [] old new same all = subst AllWithinQuota (sym (ap (λ s. s.clients) same)) all

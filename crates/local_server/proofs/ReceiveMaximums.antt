@@ -5,7 +5,7 @@ use Rattle.std.proofs.lemmas.List.Elements.{filter-append}
 use Rattle.mqtt_packet.specs.declared.packet.Connect.{Connect}
 use Rattle.conn_rules.specs.Connecting.{inflight_alone, terms_of}
 use Rattle.conn_rules.specs.declared.setup.Setup.{Setup}
-use Rattle.conn_rules.specs.declared.limits.ClientLimits.{ClientLimits}
+use Rattle.conn_rules.specs.declared.client_limits.ClientLimits.{ClientLimits}
 use Rattle.conn_rules.specs.declared.terms.Terms.{Terms}
 use Rattle.conn_engine.specs.declared.input.Input.{Input}
 use Rattle.conn_engine.specs.declared.phase.ConnectedClient.{ConnectedClient}
@@ -122,10 +122,10 @@ if_open false event old new steps number limit came taken lawful with_limit with
 
 -- ---- a run
 
-in_run : (events : List TimedEvent) (said : List StepOutput) (old new : ServerState) (number limit : ℕ) (came : Option Connect) (run : HappensAll old events said new) (steps : List TakenStep)
-    → AllAreTaken old events said new run steps → old.max_inflight ≡ limit → IsWithin limit came (phase_of (client_at old.clients number)) → KeepToTheirConnects limit came (steps_of number steps)
-in_run [] said old new number limit came run steps taken with_limit within = subst (λ (s : List TakenStep). KeepToTheirConnects limit came (steps_of number s)) (sym taken) tt
-in_run (event ∷ others) said old new number limit came run steps taken with_limit within =
+in_run : (events : List TimedEvent) (outputs : List StepOutput) (old new : ServerState) (number limit : ℕ) (came : Option Connect) (run : HappensAll old events outputs new) (steps : List TakenStep)
+    → AllAreTaken old events outputs new run steps → old.max_inflight ≡ limit → IsWithin limit came (phase_of (client_at old.clients number)) → KeepToTheirConnects limit came (steps_of number steps)
+in_run [] outputs old new number limit came run steps taken with_limit within = subst (λ (s : List TakenStep). KeepToTheirConnects limit came (steps_of number s)) (sym taken) tt
+in_run (event ∷ others) outputs old new number limit came run steps taken with_limit within =
     let mid = run.0 in
     let first = if_open (is_open old.broker) event.event old mid taken.0 number limit came taken.2.lead taken.2.lawful with_limit within in
     subst (KeepToTheirConnects limit came) (sym (ap (steps_of number) taken.4 ∙ filter-append (λ (step : TakenStep). nat_eq step.connection number) taken.0 taken.1))
@@ -136,7 +136,7 @@ new_within : (setup : Setup) (server : ServerState) → IsNewServer setup server
 new_within setup server new number =
     subst (λ (c : Option (ClientState GroupPlace)). IsWithin setup.max_inflight None (phase_of c)) (sym (ap (λ (l : Clients). client_at l number) new.clients ∙ none_at 64 number)) (tt, tt)
 
-pub all_keep : (setup : Setup) (events : List TimedEvent) (said : List StepOutput) (first last : ServerState) → IsNewServer setup first → (run : HappensAll first events said last)
-    → (steps : List TakenStep) → AllAreTaken first events said last run steps → (number : ℕ) → KeepToTheirConnects setup.max_inflight None (steps_of number steps)
-all_keep setup events said first last new run steps taken number =
-    in_run events said first last number setup.max_inflight None run steps taken new.max_inflight (new_within setup first new number)
+pub all_keep : (setup : Setup) (events : List TimedEvent) (outputs : List StepOutput) (first last : ServerState) → IsNewServer setup first → (run : HappensAll first events outputs last)
+    → (steps : List TakenStep) → AllAreTaken first events outputs last run steps → (number : ℕ) → KeepToTheirConnects setup.max_inflight None (steps_of number steps)
+all_keep setup events outputs first last new run steps taken number =
+    in_run events outputs first last number setup.max_inflight None run steps taken new.max_inflight (new_within setup first new number)

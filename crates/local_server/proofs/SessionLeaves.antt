@@ -131,12 +131,12 @@ in_event false event old new steps taken =
     subst (λ (s : List TakenStep). Along (links_at old.clients) old.broker.desk s (links_at new.clients) new.broker.desk) (sym taken.0)
     (ap links_at taken.2, ap (λ (b : Broker). b.desk) taken.1)
 
-in_run : (events : List TimedEvent) (said : List StepOutput) (old new : ServerState) (run : HappensAll old events said new) (steps : List TakenStep) → AllAreTaken old events said new run steps
+in_run : (events : List TimedEvent) (outputs : List StepOutput) (old new : ServerState) (run : HappensAll old events outputs new) (steps : List TakenStep) → AllAreTaken old events outputs new run steps
     → Along (links_at old.clients) old.broker.desk steps (links_at new.clients) new.broker.desk
-in_run [] said old new run steps taken =
+in_run [] outputs old new run steps taken =
     subst (λ (s : List TakenStep). Along (links_at old.clients) old.broker.desk s (links_at new.clients) new.broker.desk) (sym taken)
     (ap (λ (s : ServerState). links_at s.clients) run.1, ap (λ (s : ServerState). s.broker.desk) run.1)
-in_run (event ∷ others) said old new run steps taken =
+in_run (event ∷ others) outputs old new run steps taken =
     let mid = run.0 in
     subst (λ (s : List TakenStep). Along (links_at old.clients) old.broker.desk s (links_at new.clients) new.broker.desk) (sym taken.4)
     (along_both taken.0 taken.1 (links_at old.clients) (links_at mid.clients) (links_at new.clients) old.broker.desk mid.broker.desk new.broker.desk
@@ -253,17 +253,17 @@ along_between n (first ∷ between) later step links links' desk desk' along law
     along_between n between later step (with_connected links first.connection (connected_of first.phase_after)) links' first.broker_after.desk desk' along.2 lawful.1 went.0
     (links_on n links first all went.1) stays.1 its no_join
 
-pub in_whole_run : (setup : Setup) (events : List TimedEvent) (said : List StepOutput) (first last : ServerState) → IsNewServer setup first → (run : HappensAll first events said last)
-    (steps : List TakenStep) → AllAreTaken first events said last run steps → HandsNothingToSessionsThatLeft steps
+pub in_whole_run : (setup : Setup) (events : List TimedEvent) (outputs : List StepOutput) (first last : ServerState) → IsNewServer setup first → (run : HappensAll first events outputs last)
+    (steps : List TakenStep) → AllAreTaken first events outputs last run steps → HandsNothingToSessionsThatLeft steps
 unfolding one_on
-in_whole_run setup events said first last new run steps taken n earlier between later left step are leaves its stays of_it no_join =
+in_whole_run setup events outputs first last new run steps taken n earlier between later left step are leaves its stays of_it no_join =
     let begins : Reached steps (links_at last.clients) last.broker.desk = record {
       conn_steps = [];
       links = links_at first.clients;
       desk = first.broker.desk;
       keeps_sessions = new_sessions setup first new;
-      along = in_run events said first last run steps taken;
-      lawful = all_lawful events said first last run steps taken;
+      along = in_run events outputs first last run steps taken;
+      lawful = all_lawful events outputs first last run steps taken;
     } in
     let at_left = all_on earlier (left ∷ (between ++ step ∷ later)) (links_at last.clients) last.broker.desk
     (subst (λ (s : List TakenStep). Reached s (links_at last.clients) last.broker.desk) are begins) in

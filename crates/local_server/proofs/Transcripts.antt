@@ -85,14 +85,14 @@ written_at clients clients' number before after has is each =
     ∙ sym (ap (λ (l : Clients). connected_at l each) is ∙ ap connected_in (slice_get-set_other clients number each after other)))
     (cases_eq each number)
 
-in_cell : (first : Broker) (conn_steps : List ConnStep) (said : List StepOutput) (clients clients' : Clients) (number : ℕ) (old new : Broker)
+in_cell : (first : Broker) (conn_steps : List ConnStep) (outputs : List StepOutput) (clients clients' : Clients) (number : ℕ) (old new : Broker)
     (Becomes : Option (ClientState GroupPlace) → Option (ClientState GroupPlace) → Type 0) (Answers : List ConnStep → Type 0)
     (cell : InCell clients number Becomes clients') → Keeps first conn_steps (all_connected_at clients) old
     → (Keeps first conn_steps (with_connected (all_connected_at clients) number (connected_in (Some cell.before))) old
-    → Says first conn_steps said Answers (with_connected (all_connected_at clients) number (connected_in (Some cell.after))) new)
-    → Says first conn_steps said Answers (all_connected_at clients') new
-in_cell first conn_steps said clients clients' number old new Becomes Answers cell keeps does =
-    subst (λ (l : Links). Says first conn_steps said Answers l new) (λ i each. written_at clients clients' number cell.before cell.after cell.has cell.is each i)
+    → Says first conn_steps outputs Answers (with_connected (all_connected_at clients) number (connected_in (Some cell.after))) new)
+    → Says first conn_steps outputs Answers (all_connected_at clients') new
+in_cell first conn_steps outputs clients clients' number old new Becomes Answers cell keeps does =
+    subst (λ (l : Links). Says first conn_steps outputs Answers l new) (λ i each. written_at clients clients' number cell.before cell.after cell.has cell.is each i)
     (does (subst (λ (l : Links). Keeps first conn_steps l old) (sym (with_same (all_connected_at clients) number (connected_in (Some cell.before)) (ap connected_in cell.has))) keeps))
 
 -- a connection is opened: it has no session
@@ -101,24 +101,24 @@ opened number opening None after does = ap (λ (c : Option (ClientState GroupPla
 opened number opening (Some client) after does = ap (λ (c : Option (ClientState GroupPlace)). connected_in (Some c)) (sym does)
 
 -- the close
-ended : (number : ℕ) (first : Broker) (conn_steps : List ConnStep) (old new : Broker) (clients clients' : Clients) (now : ℕ) (said : List StepOutput) (result : Result (Unit {0}) NoMemory)
-    → IsOk result → AreNumbered clients → AreSound now clients → Keeps first conn_steps (all_connected_at clients) old → (ends : EndsAt number old clients now said result clients' new)
-    → Says first conn_steps said (AllAt now (EndsSteps number inputs.Closing (client_at clients number))) (all_connected_at clients') new
-ended number first conn_steps old new clients clients' now said result ok all sound keeps ends =
-    subst (λ (c : Option (ClientState GroupPlace)). Says first conn_steps said (AllAt now (EndsSteps number inputs.Closing c)) (all_connected_at clients') new)
+ended : (number : ℕ) (first : Broker) (conn_steps : List ConnStep) (old new : Broker) (clients clients' : Clients) (now : ℕ) (outputs : List StepOutput) (result : Result (Unit {0}) NoMemory)
+    → IsOk result → AreNumbered clients → AreSound now clients → Keeps first conn_steps (all_connected_at clients) old → (ends : EndsAt number old clients now outputs result clients' new)
+    → Says first conn_steps outputs (AllAt now (EndsSteps number inputs.Closing (client_at clients number))) (all_connected_at clients') new
+ended number first conn_steps old new clients clients' now outputs result ok all sound keeps ends =
+    subst (λ (c : Option (ClientState GroupPlace)). Says first conn_steps outputs (AllAt now (EndsSteps number inputs.Closing c)) (all_connected_at clients') new)
     (sym (client_in clients number ends.before ends.has))
-    (in_cell first conn_steps said clients clients' number old new _ (AllAt now (EndsSteps number inputs.Closing ends.before)) ends keeps
+    (in_cell first conn_steps outputs clients clients' number old new _ (AllAt now (EndsSteps number inputs.Closing ends.before)) ends keeps
     (λ has.
-    ends_for result ends.before ends.after first conn_steps (all_connected_at clients) number old new now inputs.Closing said ok tt (at ends.before clients number all ends.has)
+    ends_for result ends.before ends.after first conn_steps (all_connected_at clients) number old new now inputs.Closing outputs ok tt (at ends.before clients number all ends.has)
     (sound_at ends.before clients number now sound ends.has) has ends.becomes))
 
-first_ended : (number : ℕ) (first : Broker) (conn_steps : List ConnStep) (old new : Broker) (clients clients' : Clients) (now : ℕ) (said : List StepOutput) (result : Result (Unit {0}) NoMemory)
-    → IsOk result → AreNumbered clients → AreSound now clients → Keeps first conn_steps (all_connected_at clients) old → EndsFirst number old clients now said result clients' new
-    → Says first conn_steps said (AllAt now (EndsBelow number clients)) (all_connected_at clients') new
-first_ended zero first conn_steps old new clients clients' now said result ok all sound keeps ends =
-    subst (λ (c : Clients). Says first conn_steps said (AllAt now (EndsBelow 0 clients)) (all_connected_at c) new) (sym ends.2)
-    (silent first conn_steps (AllAt now (EndsBelow 0 clients)) (all_connected_at clients) old new said (tt, none_below clients) ends.0 ends.3 keeps)
-first_ended (suc number) first conn_steps old new clients clients' now said result ok all sound keeps ends =
+first_ended : (number : ℕ) (first : Broker) (conn_steps : List ConnStep) (old new : Broker) (clients clients' : Clients) (now : ℕ) (outputs : List StepOutput) (result : Result (Unit {0}) NoMemory)
+    → IsOk result → AreNumbered clients → AreSound now clients → Keeps first conn_steps (all_connected_at clients) old → EndsFirst number old clients now outputs result clients' new
+    → Says first conn_steps outputs (AllAt now (EndsBelow number clients)) (all_connected_at clients') new
+first_ended zero first conn_steps old new clients clients' now outputs result ok all sound keeps ends =
+    subst (λ (c : Clients). Says first conn_steps outputs (AllAt now (EndsBelow 0 clients)) (all_connected_at c) new) (sym ends.2)
+    (silent first conn_steps (AllAt now (EndsBelow 0 clients)) (all_connected_at clients) old new outputs (tt, none_below clients) ends.0 ends.3 keeps)
+first_ended (suc number) first conn_steps old new clients clients' now outputs result ok all sound keeps ends =
     let both : IsOk (result_and ends.4 ends.5) = subst IsOk ends.9 ok in
     subst (λ (s : List StepOutput). Says first conn_steps s (AllAt now (EndsBelow (suc number) clients)) (all_connected_at clients') new) (sym ends.8)
     (then_says first conn_steps ends.2 ends.3 (AllAt now (EndsBelow number clients)) (AllAt now (EndsSteps number inputs.Closing (client_at ends.1 number)))
@@ -158,73 +158,73 @@ shut first conn_steps all_connected old closed closes keeps =
     }
 
 -- an event, where no allocation failed
-does : (max_inflight : ℕ) (event : ServerEvent) (first : Broker) (conn_steps : List ConnStep) (old new : Broker) (clients clients' : Clients) (now : ℕ) (said : List StepOutput) (result : Result (Unit {0}) NoMemory)
-    → IsOk result → AreNumbered clients → AreSound now clients → Keeps first conn_steps (all_connected_at clients) old → Does event max_inflight old clients now said result clients' new
-    → Says first conn_steps said (AllAt now (λ more. EventIsAnswered event clients more clients')) (all_connected_at clients') new
-does max_inflight (events.Open number) first conn_steps old new clients clients' now said result ok all sound keeps done =
+does : (max_inflight : ℕ) (event : ServerEvent) (first : Broker) (conn_steps : List ConnStep) (old new : Broker) (clients clients' : Clients) (now : ℕ) (outputs : List StepOutput) (result : Result (Unit {0}) NoMemory)
+    → IsOk result → AreNumbered clients → AreSound now clients → Keeps first conn_steps (all_connected_at clients) old → Does event max_inflight old clients now outputs result clients' new
+    → Says first conn_steps outputs (AllAt now (λ more. EventIsAnswered event clients more clients')) (all_connected_at clients') new
+does max_inflight (events.Open number) first conn_steps old new clients clients' now outputs result ok all sound keeps done =
     let cell = done.0 in
     let Silent : List ConnStep → Type 0 = AllAt now (λ more. more ≡ []) in
-    in_cell first conn_steps said clients clients' number old new _ Silent cell keeps
+    in_cell first conn_steps outputs clients clients' number old new _ Silent cell keeps
     (λ has.
-    subst (λ (l : Option (ConnectedClient GroupPlace)). Says first conn_steps said Silent (with_connected (all_connected_at clients) number l) new) (opened number _ cell.before cell.after cell.becomes)
-    (silent first conn_steps Silent (with_connected (all_connected_at clients) number (connected_in (Some cell.before))) old new said (tt, refl) done.2 done.1 has))
-does max_inflight (events.Bytes number piece) first conn_steps old new clients clients' now said result ok all sound keeps cell =
-    cell_heard clients clients' number _ cell (λ before after. Says first conn_steps said (AllAt now (λ more. PieceIsAnswered before piece more after)) (all_connected_at clients') new)
-    (in_cell first conn_steps said clients clients' number old new _ (AllAt now (λ more. PieceIsAnswered cell.before piece more cell.after)) cell keeps
+    subst (λ (l : Option (ConnectedClient GroupPlace)). Says first conn_steps outputs Silent (with_connected (all_connected_at clients) number l) new) (opened number _ cell.before cell.after cell.becomes)
+    (silent first conn_steps Silent (with_connected (all_connected_at clients) number (connected_in (Some cell.before))) old new outputs (tt, refl) done.2 done.1 has))
+does max_inflight (events.Bytes number piece) first conn_steps old new clients clients' now outputs result ok all sound keeps cell =
+    cell_heard clients clients' number _ cell (λ before after. Says first conn_steps outputs (AllAt now (λ more. PieceIsAnswered before piece more after)) (all_connected_at clients') new)
+    (in_cell first conn_steps outputs clients clients' number old new _ (AllAt now (λ more. PieceIsAnswered cell.before piece more cell.after)) cell keeps
     (λ has.
-    receives result cell.before cell.after first conn_steps (all_connected_at clients) number old new now piece said ok (at cell.before clients number all cell.has)
+    receives result cell.before cell.after first conn_steps (all_connected_at clients) number old new now piece outputs ok (at cell.before clients number all cell.has)
     (sound_at cell.before clients number now sound cell.has) has cell.becomes))
-does max_inflight (events.Tick number) first conn_steps old new clients clients' now said result ok all sound keeps cell =
-    cell_heard clients clients' number _ cell (λ before after. Says first conn_steps said (AllAt now (λ more. TickIsAnswered before more after)) (all_connected_at clients') new)
-    (in_cell first conn_steps said clients clients' number old new _ (AllAt now (λ more. TickIsAnswered cell.before more cell.after)) cell keeps
+does max_inflight (events.Tick number) first conn_steps old new clients clients' now outputs result ok all sound keeps cell =
+    cell_heard clients clients' number _ cell (λ before after. Says first conn_steps outputs (AllAt now (λ more. TickIsAnswered before more after)) (all_connected_at clients') new)
+    (in_cell first conn_steps outputs clients clients' number old new _ (AllAt now (λ more. TickIsAnswered cell.before more cell.after)) cell keeps
     (λ has.
-    ticks_for result cell.before cell.after first conn_steps (all_connected_at clients) number old new now said ok (at cell.before clients number all cell.has)
+    ticks_for result cell.before cell.after first conn_steps (all_connected_at clients) number old new now outputs ok (at cell.before clients number all cell.has)
     (sound_at cell.before clients number now sound cell.has) has cell.becomes))
-does max_inflight (events.End number) first conn_steps old new clients clients' now said result ok all sound keeps cell =
-    cell_heard clients clients' number _ cell (λ before after. Says first conn_steps said (AllAt now (LastIsAnswered inputs.EndOfInput before)) (all_connected_at clients') new)
-    (says_so first conn_steps said (AllAt now (EndsSteps number inputs.EndOfInput cell.before)) (AllAt now (LastIsAnswered inputs.EndOfInput cell.before)) (all_connected_at clients') new
+does max_inflight (events.End number) first conn_steps old new clients clients' now outputs result ok all sound keeps cell =
+    cell_heard clients clients' number _ cell (λ before after. Says first conn_steps outputs (AllAt now (LastIsAnswered inputs.EndOfInput before)) (all_connected_at clients') new)
+    (says_so first conn_steps outputs (AllAt now (EndsSteps number inputs.EndOfInput cell.before)) (AllAt now (LastIsAnswered inputs.EndOfInput cell.before)) (all_connected_at clients') new
     (λ these ends. (ends.0, ends_heard number inputs.EndOfInput cell.before these ends.1))
-    (in_cell first conn_steps said clients clients' number old new _ (AllAt now (EndsSteps number inputs.EndOfInput cell.before)) cell keeps
+    (in_cell first conn_steps outputs clients clients' number old new _ (AllAt now (EndsSteps number inputs.EndOfInput cell.before)) cell keeps
     (λ has.
-    ends_for result cell.before cell.after first conn_steps (all_connected_at clients) number old new now inputs.EndOfInput said ok tt
+    ends_for result cell.before cell.after first conn_steps (all_connected_at clients) number old new now inputs.EndOfInput outputs ok tt
     (at cell.before clients number all cell.has) (sound_at cell.before clients number now sound cell.has) has cell.becomes)))
-does max_inflight events.Close first conn_steps old new clients clients' now said result ok all sound keeps closes =
-    says_so first conn_steps said (AllAt now (EndsBelow closes.2 clients)) (AllAt now (λ more. EventIsAnswered events.Close clients more clients')) (all_connected_at clients') new
+does max_inflight events.Close first conn_steps old new clients clients' now outputs result ok all sound keeps closes =
+    says_so first conn_steps outputs (AllAt now (EndsBelow closes.2 clients)) (AllAt now (λ more. EventIsAnswered events.Close clients more clients')) (all_connected_at clients') new
     (λ these below. (below.0, λ number less. ends_heard number inputs.Closing (client_at clients number) _ ((below.1 number).0 (let is = closes.3 in omega arith))))
-    (first_ended closes.2 first conn_steps closes.0 new clients clients' now said result ok all sound (shut first conn_steps (all_connected_at clients) old closes.0 closes.1 keeps) closes.4)
+    (first_ended closes.2 first conn_steps closes.0 new clients clients' now outputs result ok all sound (shut first conn_steps (all_connected_at clients) old closes.0 closes.1 keeps) closes.4)
 
-does_if : (max_inflight : ℕ) (open? : Bool) (event : ServerEvent) (first : Broker) (conn_steps : List ConnStep) (old new : Broker) (clients clients' : Clients) (now : ℕ) (said : List StepOutput)
+does_if : (max_inflight : ℕ) (open? : Bool) (event : ServerEvent) (first : Broker) (conn_steps : List ConnStep) (old new : Broker) (clients clients' : Clients) (now : ℕ) (outputs : List StepOutput)
     (result : Result (Unit {0}) NoMemory)
-    → IsOk result → AreNumbered clients → AreSound now clients → Keeps first conn_steps (all_connected_at clients) old → DoesIf open? event max_inflight old clients now said result clients' new
-    → Says first conn_steps said (AllAt now (λ more. EventIsAnsweredIf open? event clients more clients')) (all_connected_at clients') new
-does_if max_inflight true event first conn_steps old new clients clients' now said result ok all sound keeps done =
-    does max_inflight event first conn_steps old new clients clients' now said result ok all sound keeps done
-does_if max_inflight false event first conn_steps old new clients clients' now said result ok all sound keeps done =
-    subst (λ (c : Clients). Says first conn_steps said (AllAt now (λ more. more ≡ [])) (all_connected_at c) new) (sym done.2)
-    (silent first conn_steps (AllAt now (λ more. more ≡ [])) (all_connected_at clients) old new said (tt, refl) done.0 done.3 keeps)
+    → IsOk result → AreNumbered clients → AreSound now clients → Keeps first conn_steps (all_connected_at clients) old → DoesIf open? event max_inflight old clients now outputs result clients' new
+    → Says first conn_steps outputs (AllAt now (λ more. EventIsAnsweredIf open? event clients more clients')) (all_connected_at clients') new
+does_if max_inflight true event first conn_steps old new clients clients' now outputs result ok all sound keeps done =
+    does max_inflight event first conn_steps old new clients clients' now outputs result ok all sound keeps done
+does_if max_inflight false event first conn_steps old new clients clients' now outputs result ok all sound keeps done =
+    subst (λ (c : Clients). Says first conn_steps outputs (AllAt now (λ more. more ≡ [])) (all_connected_at c) new) (sym done.2)
+    (silent first conn_steps (AllAt now (λ more. more ≡ [])) (all_connected_at clients) old new outputs (tt, refl) done.0 done.3 keeps)
 
 -- what is said is told by the steps
-and_told : (first : Broker) (conn_steps : List ConnStep) (said : List StepOutput) (Answers : List ConnStep → Type 0) (all_connected : Links) (new : Broker) → Says first conn_steps said Answers all_connected new
-    → Says first conn_steps said (λ more. AllTell said more × Answers more) all_connected new
-and_told first conn_steps said Answers all_connected new says =
+and_told : (first : Broker) (conn_steps : List ConnStep) (outputs : List StepOutput) (Answers : List ConnStep → Type 0) (all_connected : Links) (new : Broker) → Says first conn_steps outputs Answers all_connected new
+    → Says first conn_steps outputs (λ more. AllTell outputs more × Answers more) all_connected new
+and_told first conn_steps outputs Answers all_connected new says =
     record { more = says.more; told = says.told; short = says.short; answers = (says.told, says.answers); keeps = says.keeps }
 
 -- the clock does not go back
 clock_later : (old new : ServerState) (moment : ℕ) → new.clock ≡ max old.clock moment → old.clock ≤ new.clock
 clock_later old new moment is = subst (λ (n : ℕ). old.clock ≤ n) (sym is) (le-max_left old.clock moment)
 
-happened : (events : List TimedEvent) (first : Broker) (conn_steps : List ConnStep) (said : List StepOutput) (old new : ServerState) → AreNumbered old.clients → AreSound old.clock old.clients
+happened : (events : List TimedEvent) (first : Broker) (conn_steps : List ConnStep) (outputs : List StepOutput) (old new : ServerState) → AreNumbered old.clients → AreSound old.clock old.clients
     → Keeps first conn_steps (all_connected_at old.clients) old.broker
-    → (run : HappensAll old events said new) → Says first conn_steps said (λ more. AllAreAnswered old events said new run more) (all_connected_at new.clients) new.broker
-happened [] first conn_steps said old new all sound keeps run =
-    subst (λ (s : ServerState). Says first conn_steps said (λ more. more ≡ []) (all_connected_at s.clients) s.broker) (sym run.1)
-    (silent first conn_steps (λ more. more ≡ []) (all_connected_at old.clients) old.broker old.broker said refl run.0 refl keeps)
-happened (event ∷ others) first conn_steps said old new all sound keeps run =
+    → (run : HappensAll old events outputs new) → Says first conn_steps outputs (λ more. AllAreAnswered old events outputs new run more) (all_connected_at new.clients) new.broker
+happened [] first conn_steps outputs old new all sound keeps run =
+    subst (λ (s : ServerState). Says first conn_steps outputs (λ more. more ≡ []) (all_connected_at s.clients) s.broker) (sym run.1)
+    (silent first conn_steps (λ more. more ≡ []) (all_connected_at old.clients) old.broker old.broker outputs refl run.0 refl keeps)
+happened (event ∷ others) first conn_steps outputs old new all sound keeps run =
     let mid = run.0 in
     let timely = sound_later old.clients old.clock mid.clock (clock_later old mid event.moment run.3.clock) sound in
-    subst (λ (s : List StepOutput). Says first conn_steps s (λ more. AllAreAnswered old (event ∷ others) said new run more) (all_connected_at new.clients) new.broker) (sym run.5)
+    subst (λ (s : List StepOutput). Says first conn_steps s (λ more. AllAreAnswered old (event ∷ others) outputs new run more) (all_connected_at new.clients) new.broker) (sym run.5)
     (then_says first conn_steps run.1 run.2 (λ more. AllTell run.1 more × AllAt mid.clock (λ more. EventIsAnsweredIf (is_open old.broker) event.event old.clients more mid.clients) more)
-    (λ more. AllAreAnswered mid others run.2 new run.4 more) (λ more. AllAreAnswered old (event ∷ others) said new run more) (all_connected_at mid.clients) (all_connected_at new.clients)
+    (λ more. AllAreAnswered mid others run.2 new run.4 more) (λ more. AllAreAnswered old (event ∷ others) outputs new run more) (all_connected_at mid.clients) (all_connected_at new.clients)
     mid.broker new.broker (λ these those one other. (these, those, one.0, one.1.0, one.1.1, other, refl))
     (and_told first conn_steps run.1 (AllAt mid.clock (λ more. EventIsAnsweredIf (is_open old.broker) event.event old.clients more mid.clients)) (all_connected_at mid.clients) mid.broker
     (does_if _ (is_open old.broker) event.event first conn_steps old.broker mid.broker old.clients mid.clients mid.clock run.1 (Ok tt) refl all timely keeps run.3.does))
@@ -282,10 +282,10 @@ starts setup first new =
       adds = adds_nothing first.broker first.broker refl;
     }
 
-whole : (setup : Setup) (events : List TimedEvent) (said : List StepOutput) (first last : ServerState) → IsNewServer setup first → (run : HappensAll first events said last)
-    → Says first.broker [] said (λ more. AllAreAnswered first events said last run more) (all_connected_at last.clients) last.broker
-whole setup events said first last new run =
-    happened events first.broker [] said first last (new_numbered setup first new) (new_sound setup first new) (starts setup first new) run
+whole : (setup : Setup) (events : List TimedEvent) (outputs : List StepOutput) (first last : ServerState) → IsNewServer setup first → (run : HappensAll first events outputs last)
+    → Says first.broker [] outputs (λ more. AllAreAnswered first events outputs last run more) (all_connected_at last.clients) last.broker
+whole setup events outputs first last new run =
+    happened events first.broker [] outputs first last (new_numbered setup first new) (new_sound setup first new) (starts setup first new) run
 
 -- two connections that have one session are one
 alone : (conn_steps : List ConnStep) (b : Broker) (all_connected : Links) (one other : ℕ) (these those : ConnectedClient GroupPlace) → KeepsSessions conn_steps b.desk all_connected
@@ -321,23 +321,23 @@ account setup first conn_steps server new keeps within =
       handed = handed setup.capacity setup.groups keeps.happenings first.broker server.broker _ new.broker keeps.led keeps.handed;
     }
 
-told_in : (setup : Setup) (events : List TimedEvent) (said : List StepOutput) (first last : ServerState) → IsNewServer setup first → (run : HappensAll first events said last)
-    → Says first.broker [] said (λ more. AllAreAnswered first events said last run more) (all_connected_at last.clients) last.broker → AllWithinQuota last.clients
-    → KeepsTranscripts first events said last run
-told_in setup events said first last new run says within =
+told_in : (setup : Setup) (events : List TimedEvent) (outputs : List StepOutput) (first last : ServerState) → IsNewServer setup first → (run : HappensAll first events outputs last)
+    → Says first.broker [] outputs (λ more. AllAreAnswered first events outputs last run more) (all_connected_at last.clients) last.broker → AllWithinQuota last.clients
+    → KeepsTranscripts first events outputs last run
+told_in setup events outputs first last new run says within =
     record { conn_steps = says.more; told = says.told; came = says.answers; account = account setup first says.more last new says.keeps within }
 
-pub transcripts : (setup : Setup) (events : List TimedEvent) (said : List StepOutput) (first last : ServerState) → IsNewServer setup first → (run : HappensAll first events said last)
-    → KeepsTranscripts first events said last run
-transcripts setup events said first last new run =
-    told_in setup events said first last new run (whole setup events said first last new run) (quotas.within setup events first last new (undergoes events said first last run))
+pub transcripts : (setup : Setup) (events : List TimedEvent) (outputs : List StepOutput) (first last : ServerState) → IsNewServer setup first → (run : HappensAll first events outputs last)
+    → KeepsTranscripts first events outputs last run
+transcripts setup events outputs first last new run =
+    told_in setup events outputs first last new run (whole setup events outputs first last new run) (quotas.within setup events first last new (undergoes events outputs first last run))
 
 -- at each moment of the run
-moments : (setup : Setup) (first : ServerState) (events : List TimedEvent) (conn_steps : List ConnStep) (said : List StepOutput) (old new : ServerState) → IsNewServer setup first
+moments : (setup : Setup) (first : ServerState) (events : List TimedEvent) (conn_steps : List ConnStep) (outputs : List StepOutput) (old new : ServerState) → IsNewServer setup first
     → AreNumbered old.clients → AreSound old.clock old.clients → Keeps first.broker conn_steps (all_connected_at old.clients) old.broker → AllWithinQuota old.clients
-    → (run : HappensAll old events said new) → AccountAlong conn_steps old events said new run
-moments setup first [] conn_steps said old new is all sound keeps within run = account setup first conn_steps old is keeps within
-moments setup first (event ∷ others) conn_steps said old new is all sound keeps within run =
+    → (run : HappensAll old events outputs new) → AccountAlong conn_steps old events outputs new run
+moments setup first [] conn_steps outputs old new is all sound keeps within run = account setup first conn_steps old is keeps within
+moments setup first (event ∷ others) conn_steps outputs old new is all sound keeps within run =
     let mid = run.0 in
     let timely = sound_later old.clients old.clock mid.clock (clock_later old mid event.moment run.3.clock) sound in
     let says = does_if _ (is_open old.broker) event.event first.broker conn_steps old.broker mid.broker old.clients mid.clients mid.clock run.1 (Ok tt) refl all timely keeps run.3.does in (
@@ -351,10 +351,10 @@ moments setup first (event ∷ others) conn_steps said old new is all sound keep
           (quotas.happened event.moment event.event run.1 (Ok tt) old mid run.3 within) run.4,
     )
 
-pub along : (setup : Setup) (events : List TimedEvent) (said : List StepOutput) (first last : ServerState) → IsNewServer setup first → (run : HappensAll first events said last)
-    → AccountAlong [] first events said last run
-along setup events said first last new run =
-    moments setup first events [] said first last new (new_numbered setup first new) (new_sound setup first new) (starts setup first new) (quotas.new_within setup first new) run
+pub along : (setup : Setup) (events : List TimedEvent) (outputs : List StepOutput) (first last : ServerState) → IsNewServer setup first → (run : HappensAll first events outputs last)
+    → AccountAlong [] first events outputs last run
+along setup events outputs first last new run =
+    moments setup first events [] outputs first last new (new_numbered setup first new) (new_sound setup first new) (starts setup first new) (quotas.new_within setup first new) run
 
 -- a group that was new has nothing settled but that
 settled_since : (setup : Setup) (first : ServerState) (settled : List Settlement) (last : Broker) → IsNewServer setup first → AddsIn first.broker.groups settled last.groups
@@ -369,13 +369,13 @@ held_out : (connected : Option (ConnectedClient GroupPlace)) (b : Broker) (all_c
 held_out None b all_connected log connection owns is = tt
 held_out (Some connected) b all_connected log connection owns is = owns.owned (InHand connection) connected.session (record { connected = connected; has = is; its = refl })
 
-settled_in_run : (setup : Setup) (events : List TimedEvent) (said : List StepOutput) (first last : ServerState) → IsNewServer setup first → (run : HappensAll first events said last)
-    → Says first.broker [] said (λ more. AllAreAnswered first events said last run more) (all_connected_at last.clients) last.broker → AllWithinQuota last.clients
-    → SettlesWhatIsAcknowledged first events said last run
+settled_in_run : (setup : Setup) (events : List TimedEvent) (outputs : List StepOutput) (first last : ServerState) → IsNewServer setup first → (run : HappensAll first events outputs last)
+    → Says first.broker [] outputs (λ more. AllAreAnswered first events outputs last run more) (all_connected_at last.clients) last.broker → AllWithinQuota last.clients
+    → SettlesWhatIsAcknowledged first events outputs last run
 unfolding told_in
-settled_in_run setup events said first last new run says within =
+settled_in_run setup events outputs first last new run says within =
     record {
-      transcripts = told_in setup events said first last new run says within;
+      transcripts = told_in setup events outputs first last new run says within;
       settled = says.keeps.settled;
       acknowledged = says.keeps.acknowledged;
       fates = settled_since setup first says.keeps.settled last.broker new says.keeps.adds;
@@ -383,19 +383,19 @@ settled_in_run setup events said first last new run says within =
       parked_out = λ number row session has stands. says.keeps.owns.owned (AtDesk number) session (record { row = row; has = has; stands = stands });
     }
 
-pub settlings : (setup : Setup) (events : List TimedEvent) (said : List StepOutput) (first last : ServerState) → IsNewServer setup first → (run : HappensAll first events said last)
-    → SettlesWhatIsAcknowledged first events said last run
-settlings setup events said first last new run =
-    settled_in_run setup events said first last new run (whole setup events said first last new run) (quotas.within setup events first last new (undergoes events said first last run))
+pub settlings : (setup : Setup) (events : List TimedEvent) (outputs : List StepOutput) (first last : ServerState) → IsNewServer setup first → (run : HappensAll first events outputs last)
+    → SettlesWhatIsAcknowledged first events outputs last run
+settlings setup events outputs first last new run =
+    settled_in_run setup events outputs first last new run (whole setup events outputs first last new run) (quotas.within setup events first last new (undergoes events outputs first last run))
 
 -- what is sent was accepted
-pub messages : (setup : Setup) (events : List TimedEvent) (said : List StepOutput) (first last : ServerState) → IsNewServer setup first → (run : HappensAll first events said last)
-    → SendsWhatWasAccepted first events said last run
+pub messages : (setup : Setup) (events : List TimedEvent) (outputs : List StepOutput) (first last : ServerState) → IsNewServer setup first → (run : HappensAll first events outputs last)
+    → SendsWhatWasAccepted first events outputs last run
 unfolding settled_in_run told_in
-messages setup events said first last new run =
-    let says = whole setup events said first last new run in
+messages setup events outputs first last new run =
+    let says = whole setup events outputs first last new run in
     record {
-      settling = settled_in_run setup events said first last new run says (quotas.within setup events first last new (undergoes events said first last run));
+      settling = settled_in_run setup events outputs first last new run says (quotas.within setup events first last new (undergoes events outputs first last run));
       eight = as_many says.keeps.happenings first.broker last.broker says.keeps.led ∙ new.broker.eight;
       accepted = says.keeps.accepted;
       brought = says.keeps.accepts;
@@ -404,5 +404,5 @@ messages setup events said first last new run =
     }
 
 -- what is said is short
-pub shortness : (setup : Setup) (events : List TimedEvent) (said : List StepOutput) (first last : ServerState) → IsNewServer setup first → HappensAll first events said last → AllShort said
-shortness setup events said first last new run = (whole setup events said first last new run).short
+pub shortness : (setup : Setup) (events : List TimedEvent) (outputs : List StepOutput) (first last : ServerState) → IsNewServer setup first → HappensAll first events outputs last → AllShort outputs
+shortness setup events outputs first last new run = (whole setup events outputs first last new run).short

@@ -85,16 +85,16 @@ pub record Keeps (first : Broker) (conn_steps : List ConnStep) (all_connected : 
   pub adds : AddsIn first.groups settled b.groups
 
 -- what was said since is told by so many steps more, which answer what came
-pub record Says (first : Broker) (conn_steps : List ConnStep) (said : List StepOutput) (Answers : List ConnStep → Type 0) (all_connected : Links) (new : Broker) : Type 0 where
+pub record Says (first : Broker) (conn_steps : List ConnStep) (outputs : List StepOutput) (Answers : List ConnStep → Type 0) (all_connected : Links) (new : Broker) : Type 0 where
   pub more : List ConnStep
-  pub told : AllTell said more
-  pub short : AllShort said
+  pub told : AllTell outputs more
+  pub short : AllShort outputs
   pub answers : Answers more
   pub keeps : Keeps first (conn_steps ++ more) all_connected new
 
-pub silent : (first : Broker) (conn_steps : List ConnStep) (Answers : List ConnStep → Type 0) (all_connected : Links) (old new : Broker) (said : List StepOutput) → Answers [] → said ≡ [] → new ≡ old
-    → Keeps first conn_steps all_connected old → Says first conn_steps said Answers all_connected new
-silent first conn_steps Answers all_connected old new said nothing none same keeps =
+pub silent : (first : Broker) (conn_steps : List ConnStep) (Answers : List ConnStep → Type 0) (all_connected : Links) (old new : Broker) (outputs : List StepOutput) → Answers [] → outputs ≡ [] → new ≡ old
+    → Keeps first conn_steps all_connected old → Says first conn_steps outputs Answers all_connected new
+silent first conn_steps Answers all_connected old new outputs nothing none same keeps =
     subst (λ (s : List StepOutput). Says first conn_steps s Answers all_connected new) (sym none)
     (record {
       more = [];
@@ -104,22 +104,22 @@ silent first conn_steps Answers all_connected old new said nothing none same kee
       keeps = subst (λ (ts : List ConnStep). Keeps first ts all_connected new) (sym (append-nil conn_steps)) (subst (Keeps first conn_steps all_connected) (sym same) keeps);
     })
 
-pub then_says : (first : Broker) (conn_steps : List ConnStep) (said later : List StepOutput) (These Those All : List ConnStep → Type 0) (all_connected all_connected' : Links) (mid new : Broker)
-    → ((these those : List ConnStep) → These these → Those those → All (these ++ those)) → Says first conn_steps said These all_connected mid
-    → ((before : List ConnStep) → Keeps first before all_connected mid → Says first before later Those all_connected' new) → Says first conn_steps (said ++ later) All all_connected' new
-then_says first conn_steps said later These Those All all_connected all_connected' mid new both these those =
+pub then_says : (first : Broker) (conn_steps : List ConnStep) (outputs later : List StepOutput) (These Those All : List ConnStep → Type 0) (all_connected all_connected' : Links) (mid new : Broker)
+    → ((these those : List ConnStep) → These these → Those those → All (these ++ those)) → Says first conn_steps outputs These all_connected mid
+    → ((before : List ConnStep) → Keeps first before all_connected mid → Says first before later Those all_connected' new) → Says first conn_steps (outputs ++ later) All all_connected' new
+then_says first conn_steps outputs later These Those All all_connected all_connected' mid new both these those =
     let rest = those (conn_steps ++ these.more) these.keeps in
     record {
       more = these.more ++ rest.more;
-      told = told_on said later these.more rest.more these.told rest.told;
-      short = all_of_both (λ (one : StepOutput). AllByRecursion IsShort one.packets) said later these.short rest.short;
+      told = told_on outputs later these.more rest.more these.told rest.told;
+      short = all_of_both (λ (one : StepOutput). AllByRecursion IsShort one.packets) outputs later these.short rest.short;
       answers = both these.more rest.more these.answers rest.answers;
       keeps = subst (λ (ts : List ConnStep). Keeps first ts all_connected' new) (append_assoc conn_steps these.more rest.more) rest.keeps;
     }
 
-pub says_so : (first : Broker) (conn_steps : List ConnStep) (said : List StepOutput) (These All : List ConnStep → Type 0) (all_connected : Links) (new : Broker)
-    → ((these : List ConnStep) → These these → All these) → Says first conn_steps said These all_connected new → Says first conn_steps said All all_connected new
-says_so first conn_steps said These All all_connected new so says = record { more = says.more; told = says.told; short = says.short; answers = so says.more says.answers; keeps = says.keeps }
+pub says_so : (first : Broker) (conn_steps : List ConnStep) (outputs : List StepOutput) (These All : List ConnStep → Type 0) (all_connected : Links) (new : Broker)
+    → ((these : List ConnStep) → These these → All these) → Says first conn_steps outputs These all_connected new → Says first conn_steps outputs All all_connected new
+says_so first conn_steps outputs These All all_connected new so says = record { more = says.more; told = says.told; short = says.short; answers = so says.more says.answers; keeps = says.keeps }
 
 -- one step
 not_ending : (phase : ConnPhase GroupPlace) → ((connected : ConnectedClient GroupPlace) → connected_of phase ≡ Some connected → connected.session.window.retired ≡ false) → IsNotEnding phase
@@ -135,31 +135,31 @@ handed_on happenings supply_calls =
     ∙ map-append (λ (h : HandOut). h.1) (handed_by_all happenings) (handed_by_all (map Called supply_calls))
     ∙ ap (λ (l : List HandOut). messages happenings ++ map (λ (h : HandOut). h.1) l) (handed_by_calls supply_calls)
 
-stepped : (first : Broker) (conn_steps : List ConnStep) (all_connected : Links) (old new : Broker) (number : ℕ) (phase phase' : ConnPhase GroupPlace) (input : Input) (said : StepOutput)
-    (now : ℕ) → said.connection ≡ number → IsSpelled input → (steps : Steps Calls slot_of old number phase now input said.packets said.next phase' new)
-    → TranscribesWith Calls (discarded_by Calls slot_of steps.between now steps.mid new steps.sent phase' steps.hands) steps.mid old number phase now input said.packets said.next phase' new
+stepped : (first : Broker) (conn_steps : List ConnStep) (all_connected : Links) (old new : Broker) (number : ℕ) (phase phase' : ConnPhase GroupPlace) (input : Input) (output : StepOutput)
+    (now : ℕ) → output.connection ≡ number → IsSpelled input → (steps : Steps Calls slot_of old number phase now input output.packets output.next phase' new)
+    → TranscribesWith Calls (discarded_by Calls slot_of steps.between now steps.mid new steps.sent phase' steps.hands) steps.mid old number phase now input output.packets output.next phase' new
     → Keeps first conn_steps (with_connected all_connected number (connected_of phase)) old
-    → Says first conn_steps (said ∷ []) (IsStep number now input said.next) (with_connected all_connected number (connected_of phase')) new
-stepped first conn_steps all_connected old new number phase phase' input said now its spelled steps both keeps =
+    → Says first conn_steps (output ∷ []) (IsStep number now input output.next) (with_connected all_connected number (connected_of phase')) new
+stepped first conn_steps all_connected old new number phase phase' input output now its spelled steps both keeps =
     let step = both.step in
-    let acts = acts (record { all_connected = all_connected; log = keeps.accepted }) old new number now phase phase' input said.packets said.next steps keeps.owns in
-    let goes = goes_as old new number now phase phase' input said.packets said.next steps in
+    let acts = acts (record { all_connected = all_connected; log = keeps.accepted }) old new number now phase phase' input output.packets output.next steps keeps.owns in
+    let goes = goes_as old new number now phase phase' input output.packets output.next steps in
     let adds =
-    adds_step (connected_of phase) (connected_of phase') conn_steps old new (with_connected all_connected number (connected_of phase)) number now input said.next step.marks step.outcomes step.session goes
+    adds_step (connected_of phase) (connected_of phase') conn_steps old new (with_connected all_connected number (connected_of phase)) number now input output.next step.marks step.outcomes step.session goes
     (connected_here all_connected number (connected_of phase)) keeps.sessions in
     let here : with_connected all_connected number (connected_of phase) number ≡ connected_of phase = connected_here all_connected number (connected_of phase) in
     let leads = λ (connected : ConnectedClient GroupPlace) (has : connected_of phase ≡ Some connected). (keeps.sessions.has_connected number connected (here ∙ has)).leads in
     let session = λ (connected : ConnectedClient GroupPlace) (has : connected_of phase ≡ Some connected). adds.session connected (here ∙ has) in
     let settles =
-    settled_on conn_steps adds.conn_step old steps.mid new number phase phase' input said.next step.marks step.session both.replies adds.marks_are leads session acts.settled acts.adds acts.tells in
+    settled_on conn_steps adds.conn_step old steps.mid new number phase phase' input output.next step.marks step.session both.replies adds.marks_are leads session acts.settled acts.adds acts.tells in
     let hears =
-    conn_step_hears old new number now phase phase' said.packets said.next input conn_steps adds.conn_step step steps adds.input_is adds.next_is adds.marks_are goes leads session
+    conn_step_hears old new number now phase phase' output.packets output.next input conn_steps adds.conn_step step steps adds.input_is adds.next_is adds.marks_are goes leads session
     (λ connected has. keeps.owns.owned (InHand number) connected.session (record { connected = connected; has = here ∙ has; its = refl })) in
     let there : with_connected all_connected number (connected_of phase') number ≡ connected_of phase' = connected_here all_connected number (connected_of phase') in
     let again = with_again all_connected number (connected_of phase) (connected_of phase') in
     let now_keeps = subst (KeepsSessions (conn_steps ++ adds.conn_step ∷ []) new.desk) again adds.keeps in
     let stays = stays_known keeps.accepted acts.accepted in
-    let sends_known = sends conn_steps adds.conn_step phase phase' old new number now input said.packets said.next keeps.accepted (keeps.accepted ++ acts.accepted) stays step adds.marks_are
+    let sends_known = sends conn_steps adds.conn_step phase phase' old new number now input output.packets output.next keeps.accepted (keeps.accepted ++ acts.accepted) stays step adds.marks_are
     (λ connected has.
     record {
       its = session connected has;
@@ -183,15 +183,15 @@ stepped first conn_steps all_connected old new number phase phase' input said no
     let discards : all_discarded (discarded_by Calls slot_of steps.between now steps.mid new steps.sent phase' steps.hands) ≡ discards_of adds.conn_step.outcomes =
     sym both.discards ∙ ap discards_of (sym outcomes) in
     let light = all_of_both (λ (a : Accepted). IsLight a.message) keeps.accepted acts.accepted keeps.light (brought_light acts.accepted number now input spelled acts.brought.each) in
-    let same_publishes : publishes_in said.packets ≡ publishes_of adds.conn_step.at adds.conn_step.marks =
+    let same_publishes : publishes_in output.packets ≡ publishes_of adds.conn_step.at adds.conn_step.marks =
     step.publishes ∙ (λ i. publishes_of (sym adds.at_is i) (sym adds.marks_are i)) in
     let publishes = marks_short adds.conn_step.at adds.conn_step.marks (λ envelope has. known_light (keeps.accepted ++ acts.accepted) envelope light (sends_known envelope has)) in
     record {
       more = adds.conn_step ∷ [];
       told = (record { whose = adds.whose ∙ sym its; next = adds.next_is; publishes = same_publishes }, tt);
       short = (
-        packets_short said.packets
-            (kept_short said.packets (sending.sent Calls slot_of old new number now phase phase' input said.packets said.next steps))
+        packets_short output.packets
+            (kept_short output.packets (sending.sent Calls slot_of old new number now phase phase' input output.packets output.next steps))
             (subst (AllByRecursion IsShort) (sym same_publishes) publishes),
         tt,
       );
@@ -231,17 +231,17 @@ stepped first conn_steps all_connected old new number phase phase' input said no
       };
     }
 
-pub moves : (first : Broker) (conn_steps : List ConnStep) (all_connected : Links) (old new : Broker) (number : ℕ) (client after : ClientState GroupPlace) (now : ℕ) (input : Input) (said : StepOutput)
+pub moves : (first : Broker) (conn_steps : List ConnStep) (all_connected : Links) (old new : Broker) (number : ℕ) (client after : ClientState GroupPlace) (now : ℕ) (input : Input) (output : StepOutput)
     → client.conn.number ≡ number → client.conn.latest ≤ now → IsSpelled input → Keeps first conn_steps (with_connected all_connected number (connected_of client.conn.phase)) old
-    → ClientSteps Calls slot_of old client now input said after new
-    → Says first conn_steps (said ∷ []) (IsStep number now input said.next) (with_connected all_connected number (connected_of after.conn.phase)) new
-moves first conn_steps all_connected old new number client after now input said is timely spelled keeps moved =
+    → ClientSteps Calls slot_of old client now input output after new
+    → Says first conn_steps (output ∷ []) (IsStep number now input output.next) (with_connected all_connected number (connected_of after.conn.phase)) new
+moves first conn_steps all_connected old new number client after now input output is timely spelled keeps moved =
     let steps =
-    subst (λ (m : ℕ). Steps Calls slot_of old number client.conn.phase m input said.packets said.next after.conn.phase new) (made_now client now timely)
-    (subst (λ (n : ℕ). Steps Calls slot_of old n client.conn.phase (moment_of client now) input said.packets said.next after.conn.phase new) is moved.stepped) in
+    subst (λ (m : ℕ). Steps Calls slot_of old number client.conn.phase m input output.packets output.next after.conn.phase new) (made_now client now timely)
+    (subst (λ (n : ℕ). Steps Calls slot_of old n client.conn.phase (moment_of client now) input output.packets output.next after.conn.phase new) is moved.stepped) in
     let sound = not_ending client.conn.phase (λ connected has. (keeps.sessions.has_connected number connected (connected_here all_connected number (connected_of client.conn.phase) ∙ has)).leads.goes_on) in
-    stepped first conn_steps all_connected old new number client.conn.phase after.conn.phase input said now (moved.told ∙ is) spelled steps
-    (transcribed_with Calls slot_of old new number now client.conn.phase after.conn.phase input said.packets said.next steps sound) keeps
+    stepped first conn_steps all_connected old new number client.conn.phase after.conn.phase input output now (moved.told ∙ is) spelled steps
+    (transcribed_with Calls slot_of old new number now client.conn.phase after.conn.phase input output.packets output.next steps sound) keeps
 
 -- what stands in front of a stream was read
 front_spelled : (input : Input) (unread unread' : Unread) → IsInFront unread input unread' → IsSpelled input
@@ -252,52 +252,52 @@ front_spelled inputs.EndOfInput unread unread' front = absurd front
 front_spelled inputs.Closing unread unread' front = absurd front
 
 -- what is read is stepped, packet by packet
-pub reads : (said : List StepOutput) (first : Broker) (conn_steps : List ConnStep) (all_connected : Links) (old new : Broker) (number : ℕ) (client after : ClientState GroupPlace) (now : ℕ)
+pub reads : (outputs : List StepOutput) (first : Broker) (conn_steps : List ConnStep) (all_connected : Links) (old new : Broker) (number : ℕ) (client after : ClientState GroupPlace) (now : ℕ)
     → client.conn.number ≡ number → IsSound now (Some client) → Keeps first conn_steps (with_connected all_connected number (connected_of client.conn.phase)) old
-    → Reads Calls slot_of old client now said after new
-    → Says first conn_steps said (AllAt now (λ more. ReadsFrom client.unread.bytes more (kept after))) (with_connected all_connected number (connected_of after.conn.phase)) new
+    → Reads Calls slot_of old client now outputs after new
+    → Says first conn_steps outputs (AllAt now (λ more. ReadsFrom client.unread.bytes more (kept after))) (with_connected all_connected number (connected_of after.conn.phase)) new
 reads [] first conn_steps all_connected old new number client after now is sound keeps read =
     subst (λ (c : ClientState GroupPlace). Says first conn_steps [] (AllAt now (λ more. ReadsFrom client.unread.bytes more (kept c))) (with_connected all_connected number (connected_of c.conn.phase)) new) (sym read.1)
     (silent first conn_steps (AllAt now (λ more. ReadsFrom client.unread.bytes more (kept client))) (with_connected all_connected number (connected_of client.conn.phase)) old new []
     (tt, (client.unread.bytes, refl, left_to client.conn.phase client read.0)) refl read.2 keeps)
-reads (said ∷ rest) first conn_steps all_connected old new number client after now is sound keeps (inl last) =
+reads (outputs ∷ rest) first conn_steps all_connected old new number client after now is sound keeps (inl last) =
     let it = last.0 in
-    let closed = closed_by old new client after now it.input said it.moved it.closes in
-    subst (λ (more : List StepOutput). Says first conn_steps (said ∷ more) (AllAt now (λ more. ReadsFrom client.unread.bytes more (kept after))) (with_connected all_connected number (connected_of after.conn.phase)) new)
+    let closed = closed_by old new client after now it.input outputs it.moved it.closes in
+    subst (λ (more : List StepOutput). Says first conn_steps (outputs ∷ more) (AllAt now (λ more. ReadsFrom client.unread.bytes more (kept after))) (with_connected all_connected number (connected_of after.conn.phase)) new)
     (sym last.1)
-    (says_so first conn_steps (said ∷ []) (IsStep number now it.input said.next) (AllAt now (λ more. ReadsFrom client.unread.bytes more (kept after)))
+    (says_so first conn_steps (outputs ∷ []) (IsStep number now it.input outputs.next) (AllAt now (λ more. ReadsFrom client.unread.bytes more (kept after)))
     (with_connected all_connected number (connected_of after.conn.phase)) new
-    (λ these one. read_last number now it.input said.next client.unread after.unread (kept after) these sound.0 it.front closed one)
-    (moves first conn_steps all_connected old new number client after now it.input said is sound.1 (front_spelled it.input client.unread after.unread it.front) keeps it.moved))
-reads (said ∷ rest) first conn_steps all_connected old new number client after now is sound keeps (inr more) =
+    (λ these one. read_last number now it.input outputs.next client.unread after.unread (kept after) these sound.0 it.front closed one)
+    (moves first conn_steps all_connected old new number client after now it.input outputs is sound.1 (front_spelled it.input client.unread after.unread it.front) keeps it.moved))
+reads (outputs ∷ rest) first conn_steps all_connected old new number client after now is sound keeps (inr more) =
     let between = more.0 in
     let one = more.2 in
-    then_says first conn_steps (said ∷ []) rest (IsStep number now (inputs.Packet one.packet) said.next) (AllAt now (λ later. ReadsFrom between.unread.bytes later (kept after)))
+    then_says first conn_steps (outputs ∷ []) rest (IsStep number now (inputs.Packet one.packet) outputs.next) (AllAt now (λ later. ReadsFrom between.unread.bytes later (kept after)))
     (AllAt now (λ more. ReadsFrom client.unread.bytes more (kept after))) (with_connected all_connected number (connected_of between.conn.phase)) (with_connected all_connected number (connected_of after.conn.phase)) more.1 new
-    (λ these those conn_step later. read_first number now one.packet said.next client.unread between.unread (kept after) these those one.taken one.goes conn_step later)
-    (moves first conn_steps all_connected old more.1 number client between now (inputs.Packet one.packet) said is sound.1 (one.taken.front, one.taken.spelled) keeps one.moved)
+    (λ these those conn_step later. read_first number now one.packet outputs.next client.unread between.unread (kept after) these those one.taken one.goes conn_step later)
+    (moves first conn_steps all_connected old more.1 number client between now (inputs.Packet one.packet) outputs is sound.1 (one.taken.front, one.taken.spelled) keeps one.moved)
     (λ before kept. reads rest first before all_connected more.1 new number between after now (one.moved.same ∙ is)
     (one.taken.goes_on, still_timely client between now sound.1 one.moved.latest) kept more.3)
 
-pub ticks : (said : List StepOutput) (first : Broker) (conn_steps : List ConnStep) (all_connected : Links) (old new : Broker) (number : ℕ) (client after : ClientState GroupPlace) (now : ℕ)
+pub ticks : (outputs : List StepOutput) (first : Broker) (conn_steps : List ConnStep) (all_connected : Links) (old new : Broker) (number : ℕ) (client after : ClientState GroupPlace) (now : ℕ)
     → client.conn.number ≡ number → IsSound now (Some client) → Keeps first conn_steps (with_connected all_connected number (connected_of client.conn.phase)) old
-    → Ticks Calls slot_of old client now said after new
-    → Says first conn_steps said (AllAt now (λ more. TickIsAnswered (Some client) more (kept after))) (with_connected all_connected number (connected_of after.conn.phase)) new
+    → Ticks Calls slot_of old client now outputs after new
+    → Says first conn_steps outputs (AllAt now (λ more. TickIsAnswered (Some client) more (kept after))) (with_connected all_connected number (connected_of after.conn.phase)) new
 ticks [] first conn_steps all_connected old new number client after now is sound keeps ticked = absurd ticked
-ticks (said ∷ rest) first conn_steps all_connected old new number client after now is sound keeps (inl last) =
-    let over = stopped old new client after now inputs.Tick said last.0 last.1 in
-    subst (λ (more : List StepOutput). Says first conn_steps (said ∷ more) (AllAt now (λ more. TickIsAnswered (Some client) more (kept after))) (with_connected all_connected number (connected_of after.conn.phase)) new)
+ticks (outputs ∷ rest) first conn_steps all_connected old new number client after now is sound keeps (inl last) =
+    let over = stopped old new client after now inputs.Tick outputs last.0 last.1 in
+    subst (λ (more : List StepOutput). Says first conn_steps (outputs ∷ more) (AllAt now (λ more. TickIsAnswered (Some client) more (kept after))) (with_connected all_connected number (connected_of after.conn.phase)) new)
     (sym last.2)
-    (says_so first conn_steps (said ∷ []) (IsStep number now inputs.Tick said.next) (AllAt now (λ more. TickIsAnswered (Some client) more (kept after)))
-    (with_connected all_connected number (connected_of after.conn.phase)) new (λ these one. tick_last number now said.next client (kept after) these over one)
-    (moves first conn_steps all_connected old new number client after now inputs.Tick said is sound.1 tt keeps last.0))
-ticks (said ∷ rest) first conn_steps all_connected old new number client after now is sound keeps (inr more) =
+    (says_so first conn_steps (outputs ∷ []) (IsStep number now inputs.Tick outputs.next) (AllAt now (λ more. TickIsAnswered (Some client) more (kept after)))
+    (with_connected all_connected number (connected_of after.conn.phase)) new (λ these one. tick_last number now outputs.next client (kept after) these over one)
+    (moves first conn_steps all_connected old new number client after now inputs.Tick outputs is sound.1 tt keeps last.0))
+ticks (outputs ∷ rest) first conn_steps all_connected old new number client after now is sound keeps (inr more) =
     let between = more.0 in
     let same = more.5 in
-    then_says first conn_steps (said ∷ []) rest (IsStep number now inputs.Tick said.next) (AllAt now (λ later. ReadsFrom between.unread.bytes later (kept after)))
+    then_says first conn_steps (outputs ∷ []) rest (IsStep number now inputs.Tick outputs.next) (AllAt now (λ later. ReadsFrom between.unread.bytes later (kept after)))
     (AllAt now (λ more. TickIsAnswered (Some client) more (kept after))) (with_connected all_connected number (connected_of between.conn.phase)) (with_connected all_connected number (connected_of after.conn.phase)) more.1 new
-    (λ these those conn_step later. tick_first number now said.next client between (kept after) these those same more.3 conn_step later)
-    (moves first conn_steps all_connected old more.1 number client between now inputs.Tick said is sound.1 tt keeps more.2)
+    (λ these those conn_step later. tick_first number now outputs.next client between (kept after) these those same more.3 conn_step later)
+    (moves first conn_steps all_connected old more.1 number client between now inputs.Tick outputs is sound.1 tt keeps more.2)
     (λ before kept. reads rest first before all_connected more.1 new number between after now (more.2.same ∙ is)
     (ap (λ (u : Unread). u.fault) same ∙ sound.0, still_timely client between now sound.1 more.2.latest) kept more.4)
 
@@ -308,58 +308,58 @@ cell_connected (Waiting request ticks) client is = ap connected_of is
 cell_connected (Connected connected) client is = ap connected_of is
 cell_connected Ended client is = refl
 
-in_cell : (first : Broker) (conn_steps : List ConnStep) (said : List StepOutput) (Answers : List ConnStep → Option (ClientState GroupPlace) → Type 0) (all_connected : Links) (number : ℕ)
+in_cell : (first : Broker) (conn_steps : List ConnStep) (outputs : List StepOutput) (Answers : List ConnStep → Option (ClientState GroupPlace) → Type 0) (all_connected : Links) (number : ℕ)
     (client : ClientState GroupPlace) (after : Option (ClientState GroupPlace)) (new : Broker) → after ≡ kept client
-    → Says first conn_steps said (λ more. Answers more (kept client)) (with_connected all_connected number (connected_of client.conn.phase)) new
-    → Says first conn_steps said (λ more. Answers more after) (with_connected all_connected number (connected_in (Some after))) new
-in_cell first conn_steps said Answers all_connected number client after new is says =
-    subst (λ (c : Option (ClientState GroupPlace)). Says first conn_steps said (λ more. Answers more c) (with_connected all_connected number (connected_in (Some c))) new) (sym is)
-    (subst (λ (l : Option (ConnectedClient GroupPlace)). Says first conn_steps said (λ more. Answers more (kept client)) (with_connected all_connected number l) new)
+    → Says first conn_steps outputs (λ more. Answers more (kept client)) (with_connected all_connected number (connected_of client.conn.phase)) new
+    → Says first conn_steps outputs (λ more. Answers more after) (with_connected all_connected number (connected_in (Some after))) new
+in_cell first conn_steps outputs Answers all_connected number client after new is says =
+    subst (λ (c : Option (ClientState GroupPlace)). Says first conn_steps outputs (λ more. Answers more c) (with_connected all_connected number (connected_in (Some c))) new) (sym is)
+    (subst (λ (l : Option (ConnectedClient GroupPlace)). Says first conn_steps outputs (λ more. Answers more (kept client)) (with_connected all_connected number l) new)
     (sym (cell_connected client.conn.phase client refl)) says)
 
-nobody : (first : Broker) (conn_steps : List ConnStep) (said : List StepOutput) (Answers : List ConnStep → Type 0) (all_connected : Links) (number : ℕ) (after : Option (ClientState GroupPlace))
-    (old new : Broker) → Answers [] → said ≡ [] → after ≡ None → new ≡ old → Keeps first conn_steps (with_connected all_connected number None) old
-    → Says first conn_steps said Answers (with_connected all_connected number (connected_in (Some after))) new
-nobody first conn_steps said Answers all_connected number after old new nothing none is same keeps =
-    subst (λ (c : Option (ClientState GroupPlace)). Says first conn_steps said Answers (with_connected all_connected number (connected_in (Some c))) new) (sym is)
-    (silent first conn_steps Answers (with_connected all_connected number None) old new said nothing none same keeps)
+nobody : (first : Broker) (conn_steps : List ConnStep) (outputs : List StepOutput) (Answers : List ConnStep → Type 0) (all_connected : Links) (number : ℕ) (after : Option (ClientState GroupPlace))
+    (old new : Broker) → Answers [] → outputs ≡ [] → after ≡ None → new ≡ old → Keeps first conn_steps (with_connected all_connected number None) old
+    → Says first conn_steps outputs Answers (with_connected all_connected number (connected_in (Some after))) new
+nobody first conn_steps outputs Answers all_connected number after old new nothing none is same keeps =
+    subst (λ (c : Option (ClientState GroupPlace)). Says first conn_steps outputs Answers (with_connected all_connected number (connected_in (Some c))) new) (sym is)
+    (silent first conn_steps Answers (with_connected all_connected number None) old new outputs nothing none same keeps)
 
 pub receives : (result : Result (Unit {0}) NoMemory) (before after : Option (ClientState GroupPlace)) (first : Broker) (conn_steps : List ConnStep) (all_connected : Links) (number : ℕ)
-    (old new : Broker) (now : ℕ) (piece : List ℕ) (said : List StepOutput) → IsOk result → IsNumbered number before → IsSound now before
-    → Keeps first conn_steps (with_connected all_connected number (connected_in (Some before))) old → Receives Calls slot_of old before now piece said result after new
-    → Says first conn_steps said (AllAt now (λ more. PieceIsAnswered before piece more after)) (with_connected all_connected number (connected_in (Some after))) new
-receives (Ok done) None after first conn_steps all_connected number old new now piece said ok is sound keeps does =
-    nobody first conn_steps said (AllAt now (λ more. PieceIsAnswered None piece more after)) all_connected number after old new (tt, refl) does.0 does.1 does.2 keeps
-receives (Ok done) (Some client) after first conn_steps all_connected number old new now piece said ok is sound keeps does =
+    (old new : Broker) (now : ℕ) (piece : List ℕ) (outputs : List StepOutput) → IsOk result → IsNumbered number before → IsSound now before
+    → Keeps first conn_steps (with_connected all_connected number (connected_in (Some before))) old → Receives Calls slot_of old before now piece outputs result after new
+    → Says first conn_steps outputs (AllAt now (λ more. PieceIsAnswered before piece more after)) (with_connected all_connected number (connected_in (Some after))) new
+receives (Ok done) None after first conn_steps all_connected number old new now piece outputs ok is sound keeps does =
+    nobody first conn_steps outputs (AllAt now (λ more. PieceIsAnswered None piece more after)) all_connected number after old new (tt, refl) does.0 does.1 does.2 keeps
+receives (Ok done) (Some client) after first conn_steps all_connected number old new now piece outputs ok is sound keeps does =
     let same = fed_unread client piece sound.0 in
-    in_cell first conn_steps said (λ more c. AllAt now (λ these. PieceIsAnswered (Some client) piece these c) more) all_connected number does.0 after new does.2
-    (says_so first conn_steps said (AllAt now (λ more. ReadsFrom (fed client piece).unread.bytes more (kept does.0))) (AllAt now (λ more. PieceIsAnswered (Some client) piece more (kept does.0)))
+    in_cell first conn_steps outputs (λ more c. AllAt now (λ these. PieceIsAnswered (Some client) piece these c) more) all_connected number does.0 after new does.2
+    (says_so first conn_steps outputs (AllAt now (λ more. ReadsFrom (fed client piece).unread.bytes more (kept does.0))) (AllAt now (λ more. PieceIsAnswered (Some client) piece more (kept does.0)))
     (with_connected all_connected number (connected_of does.0.conn.phase)) new
     (λ these from. (from.0, subst (λ (u : Unread). ReadsFrom u.bytes these (kept does.0)) same from.1))
-    (reads said first conn_steps all_connected old new number (fed client piece) does.0 now is (ap (λ (u : Unread). u.fault) same, sound.1) keeps does.1))
-receives (Err error) before after first conn_steps all_connected number old new now piece said ok is sound keeps does = absurd (false≢true ok)
+    (reads outputs first conn_steps all_connected old new number (fed client piece) does.0 now is (ap (λ (u : Unread). u.fault) same, sound.1) keeps does.1))
+receives (Err error) before after first conn_steps all_connected number old new now piece outputs ok is sound keeps does = absurd (false≢true ok)
 
 pub ticks_for : (result : Result (Unit {0}) NoMemory) (before after : Option (ClientState GroupPlace)) (first : Broker) (conn_steps : List ConnStep) (all_connected : Links) (number : ℕ)
-    (old new : Broker) (now : ℕ) (said : List StepOutput) → IsOk result → IsNumbered number before → IsSound now before
-    → Keeps first conn_steps (with_connected all_connected number (connected_in (Some before))) old → TicksFor Calls slot_of old before now said result after new
-    → Says first conn_steps said (AllAt now (λ more. TickIsAnswered before more after)) (with_connected all_connected number (connected_in (Some after))) new
-ticks_for (Ok done) None after first conn_steps all_connected number old new now said ok is sound keeps does =
-    nobody first conn_steps said (AllAt now (λ more. TickIsAnswered None more after)) all_connected number after old new (tt, refl) does.0 does.1 does.2 keeps
-ticks_for (Ok done) (Some client) after first conn_steps all_connected number old new now said ok is sound keeps does =
-    in_cell first conn_steps said (λ more c. AllAt now (λ these. TickIsAnswered (Some client) these c) more) all_connected number does.0 after new does.2
-    (ticks said first conn_steps all_connected old new number client does.0 now is sound keeps does.1)
-ticks_for (Err error) before after first conn_steps all_connected number old new now said ok is sound keeps does = absurd (false≢true ok)
+    (old new : Broker) (now : ℕ) (outputs : List StepOutput) → IsOk result → IsNumbered number before → IsSound now before
+    → Keeps first conn_steps (with_connected all_connected number (connected_in (Some before))) old → TicksFor Calls slot_of old before now outputs result after new
+    → Says first conn_steps outputs (AllAt now (λ more. TickIsAnswered before more after)) (with_connected all_connected number (connected_in (Some after))) new
+ticks_for (Ok done) None after first conn_steps all_connected number old new now outputs ok is sound keeps does =
+    nobody first conn_steps outputs (AllAt now (λ more. TickIsAnswered None more after)) all_connected number after old new (tt, refl) does.0 does.1 does.2 keeps
+ticks_for (Ok done) (Some client) after first conn_steps all_connected number old new now outputs ok is sound keeps does =
+    in_cell first conn_steps outputs (λ more c. AllAt now (λ these. TickIsAnswered (Some client) these c) more) all_connected number does.0 after new does.2
+    (ticks outputs first conn_steps all_connected old new number client does.0 now is sound keeps does.1)
+ticks_for (Err error) before after first conn_steps all_connected number old new now outputs ok is sound keeps does = absurd (false≢true ok)
 
 pub ends_for : (result : Result (Unit {0}) NoMemory) (before after : Option (ClientState GroupPlace)) (first : Broker) (conn_steps : List ConnStep) (all_connected : Links) (number : ℕ)
-    (old new : Broker) (now : ℕ) (input : Input) (said : List StepOutput) → IsOk result → IsSpelled input → IsNumbered number before → IsSound now before
-    → Keeps first conn_steps (with_connected all_connected number (connected_in (Some before))) old → EndsFor Calls slot_of old before now input said result after new
-    → Says first conn_steps said (AllAt now (EndsSteps number input before)) (with_connected all_connected number (connected_in (Some after))) new
-ends_for (Ok done) None after first conn_steps all_connected number old new now input said ok spelled is sound keeps does =
-    nobody first conn_steps said (AllAt now (EndsSteps number input None)) all_connected number after old new (tt, refl) does.0 does.1 does.2 keeps
-ends_for (Ok done) (Some client) after first conn_steps all_connected number old new now input said ok spelled is sound keeps does =
-    in_cell first conn_steps said (λ more c. AllAt now (EndsSteps number input (Some client)) more) all_connected number does.0 after new does.2
+    (old new : Broker) (now : ℕ) (input : Input) (outputs : List StepOutput) → IsOk result → IsSpelled input → IsNumbered number before → IsSound now before
+    → Keeps first conn_steps (with_connected all_connected number (connected_in (Some before))) old → EndsFor Calls slot_of old before now input outputs result after new
+    → Says first conn_steps outputs (AllAt now (EndsSteps number input before)) (with_connected all_connected number (connected_in (Some after))) new
+ends_for (Ok done) None after first conn_steps all_connected number old new now input outputs ok spelled is sound keeps does =
+    nobody first conn_steps outputs (AllAt now (EndsSteps number input None)) all_connected number after old new (tt, refl) does.0 does.1 does.2 keeps
+ends_for (Ok done) (Some client) after first conn_steps all_connected number old new now input outputs ok spelled is sound keeps does =
+    in_cell first conn_steps outputs (λ more c. AllAt now (EndsSteps number input (Some client)) more) all_connected number does.0 after new does.2
     (subst (λ (s : List StepOutput). Says first conn_steps s (AllAt now (EndsSteps number input (Some client))) (with_connected all_connected number (connected_of does.0.conn.phase)) new) (sym does.1.1)
     (says_so first conn_steps (does.1.0 ∷ []) (IsStep number now input does.1.0.next) (AllAt now (EndsSteps number input (Some client))) (with_connected all_connected number (connected_of does.0.conn.phase)) new
     (λ these one. one_ends number now input does.1.0.next client these one)
     (moves first conn_steps all_connected old new number client does.0 now input does.1.0 is sound.1 spelled keeps does.1.2)))
-ends_for (Err error) before after first conn_steps all_connected number old new now input said ok spelled is sound keeps does = absurd (false≢true ok)
+ends_for (Err error) before after first conn_steps all_connected number old new now input outputs ok spelled is sound keeps does = absurd (false≢true ok)

@@ -266,11 +266,11 @@ opens_it its number stream earlier (Some client) after these opening same none d
     nothing_more stream earlier (reading_steps these) after (ap reading_steps none) (subst (Keeps stream earlier) (sym does) keeps)
 
 -- an event of a server that is open
-in_event : (event : ServerEvent) (number : ℕ) (stream : List ℕ) (earlier : List ConnStep) (old new : ServerState) (said : List StepOutput) (result : Result (Unit {0}) NoMemory) (steps : List TakenStep)
+in_event : (event : ServerEvent) (number : ℕ) (stream : List ℕ) (earlier : List ConnStep) (old new : ServerState) (outputs : List StepOutput) (result : Result (Unit {0}) NoMemory) (steps : List TakenStep)
     → AllByRecursion IsLawfulStep steps → AreUp new.clients → AreTakenIn event old steps new → EventIsAnswered event old.clients (map conn_step_of steps) new.clients
-    → Does event old.max_inflight old.broker old.clients new.clock said result new.clients new.broker → Keeps stream earlier (client_at old.clients number)
+    → Does event old.max_inflight old.broker old.clients new.clock outputs result new.clients new.broker → Keeps stream earlier (client_at old.clients number)
     → IsKept true event number stream earlier (client_at old.clients number) (steps_of number steps) (client_at new.clients number)
-in_event (events.Open its) number stream earlier old new said result steps lawful up taken answer done keeps =
+in_event (events.Open its) number stream earlier old new outputs result steps lawful up taken answer done keeps =
     let none : steps_of number steps ≡ [] = ap (steps_of number) (none_mapped steps answer) in
     let cell = done.0 in
     ⊎_elim
@@ -281,9 +281,9 @@ in_event (events.Open its) number stream earlier old new said result steps lawfu
     (λ (other : number ≢ its).
     stays_so true (events.Open its) number stream earlier (client_at old.clients number) (client_at new.clients number) (steps_of number steps) (ne_eqb its number (λ e. other (sym e))) refl
     (ap reading_steps none)
-    (subst (Keeps stream earlier) (sym (does_aside old.max_inflight (events.Open its) old.broker new.broker old.clients new.clients new.clock said result number other done)) keeps))
+    (subst (Keeps stream earlier) (sym (does_aside old.max_inflight (events.Open its) old.broker new.broker old.clients new.clients new.clock outputs result number other done)) keeps))
     (cases_eq number its)
-in_event (events.Bytes its piece) number stream earlier old new said result steps lawful up taken answer done keeps =
+in_event (events.Bytes its piece) number stream earlier old new outputs result steps lawful up taken answer done keeps =
     ⊎_elim
     (λ (same : number ≡ its).
     let own : steps_of number steps ≡ steps = ap (λ (n : ℕ). steps_of n steps) same ∙ its_own its steps taken.each in
@@ -295,9 +295,9 @@ in_event (events.Bytes its piece) number stream earlier old new said result step
     (λ (other : number ≢ its).
     stays_so true (events.Bytes its piece) number stream earlier (client_at old.clients number) (client_at new.clients number) (steps_of number steps) refl
     (ap (λ (b : Bool). if b then piece else []) (ne_eqb its number (λ e. other (sym e)))) (ap reading_steps (no_other its number steps other taken.each))
-    (subst (Keeps stream earlier) (sym (does_aside old.max_inflight (events.Bytes its piece) old.broker new.broker old.clients new.clients new.clock said result number other done)) keeps))
+    (subst (Keeps stream earlier) (sym (does_aside old.max_inflight (events.Bytes its piece) old.broker new.broker old.clients new.clients new.clock outputs result number other done)) keeps))
     (cases_eq number its)
-in_event (events.Tick its) number stream earlier old new said result steps lawful up taken answer done keeps =
+in_event (events.Tick its) number stream earlier old new outputs result steps lawful up taken answer done keeps =
     ⊎_elim
     (λ (same : number ≡ its).
     let own : steps_of number steps ≡ steps = ap (λ (n : ℕ). steps_of n steps) same ∙ its_own its steps taken.each in
@@ -308,9 +308,9 @@ in_event (events.Tick its) number stream earlier old new said result steps lawfu
     (λ (other : number ≢ its).
     stays_so true (events.Tick its) number stream earlier (client_at old.clients number) (client_at new.clients number) (steps_of number steps) refl refl
     (ap reading_steps (no_other its number steps other taken.each))
-    (subst (Keeps stream earlier) (sym (does_aside old.max_inflight (events.Tick its) old.broker new.broker old.clients new.clients new.clock said result number other done)) keeps))
+    (subst (Keeps stream earlier) (sym (does_aside old.max_inflight (events.Tick its) old.broker new.broker old.clients new.clients new.clock outputs result number other done)) keeps))
     (cases_eq number its)
-in_event (events.End its) number stream earlier old new said result steps lawful up taken answer done keeps =
+in_event (events.End its) number stream earlier old new outputs result steps lawful up taken answer done keeps =
     ⊎_elim
     (λ (same : number ≡ its).
     let own : steps_of number steps ≡ steps = ap (λ (n : ℕ). steps_of n steps) same ∙ its_own its steps taken.each in
@@ -321,16 +321,16 @@ in_event (events.End its) number stream earlier old new said result steps lawful
     (λ (other : number ≢ its).
     stays_so true (events.End its) number stream earlier (client_at old.clients number) (client_at new.clients number) (steps_of number steps) refl refl
     (ap reading_steps (no_other its number steps other taken.each))
-    (subst (Keeps stream earlier) (sym (does_aside old.max_inflight (events.End its) old.broker new.broker old.clients new.clients new.clock said result number other done)) keeps))
+    (subst (Keeps stream earlier) (sym (does_aside old.max_inflight (events.End its) old.broker new.broker old.clients new.clients new.clock outputs result number other done)) keeps))
     (cases_eq number its)
-in_event events.Close number stream earlier old new said result steps lawful up taken answer closes keeps =
+in_event events.Close number stream earlier old new outputs result steps lawful up taken answer closes keeps =
     stays_so true events.Close number stream earlier (client_at old.clients number) (client_at new.clients number) (steps_of number steps) refl refl (none_reading number steps taken.each)
     (⊎_elim
     (λ (less : number < closes.2).
-    subst (Keeps stream earlier) (sym (ap open_in (gone_below closes.2 closes.0 new.broker old.clients new.clients new.clock said result closes.4 number less)))
+    subst (Keeps stream earlier) (sym (ap open_in (gone_below closes.2 closes.0 new.broker old.clients new.clients new.clock outputs result closes.4 number less)))
     (once_ended stream earlier (client_at old.clients number) keeps))
     (λ (more : closes.2 ≤ number).
-    subst (Keeps stream earlier) (sym (untouched closes.2 number closes.0 new.broker old.clients new.clients new.clock said result more closes.4)) keeps)
+    subst (Keeps stream earlier) (sym (untouched closes.2 number closes.0 new.broker old.clients new.clients new.clock outputs result more closes.4)) keeps)
     (cases_lt number closes.2))
 
 -- an event after the close
@@ -339,24 +339,24 @@ passed_over : (event : ServerEvent) (number : ℕ) (stream : List ℕ) (earlier 
 passed_over event number stream earlier before after these none same keeps =
     nothing_more stream earlier (reading_steps these) after (ap reading_steps none) (subst (Keeps stream earlier) (sym same) keeps)
 
-in_event_if : (open? : Bool) (event : ServerEvent) (number : ℕ) (stream : List ℕ) (earlier : List ConnStep) (old new : ServerState) (said : List StepOutput) (result : Result (Unit {0}) NoMemory)
+in_event_if : (open? : Bool) (event : ServerEvent) (number : ℕ) (stream : List ℕ) (earlier : List ConnStep) (old new : ServerState) (outputs : List StepOutput) (result : Result (Unit {0}) NoMemory)
     (steps : List TakenStep) → AllByRecursion IsLawfulStep steps → AreUp new.clients → AreTakenIf open? event old steps new
     → EventIsAnsweredIf open? event old.clients (map conn_step_of steps) new.clients
-    → DoesIf open? event old.max_inflight old.broker old.clients new.clock said result new.clients new.broker → Keeps stream earlier (client_at old.clients number)
+    → DoesIf open? event old.max_inflight old.broker old.clients new.clock outputs result new.clients new.broker → Keeps stream earlier (client_at old.clients number)
     → IsKept open? event number stream earlier (client_at old.clients number) (steps_of number steps) (client_at new.clients number)
-in_event_if true event number stream earlier old new said result steps lawful up taken answer done keeps =
-    in_event event number stream earlier old new said result steps lawful up taken answer done keeps
-in_event_if false event number stream earlier old new said result steps lawful up taken answer done keeps =
+in_event_if true event number stream earlier old new outputs result steps lawful up taken answer done keeps =
+    in_event event number stream earlier old new outputs result steps lawful up taken answer done keeps
+in_event_if false event number stream earlier old new outputs result steps lawful up taken answer done keeps =
     passed_over event number stream earlier (client_at old.clients number) (client_at new.clients number) (steps_of number steps) (ap (steps_of number) taken.0)
     (ap (λ (l : Clients). client_at l number) taken.2) keeps
 
 -- one event after the other
-reads : (number : ℕ) (stream : List ℕ) (earlier : List ConnStep) (events : List TimedEvent) (said : List StepOutput) (old new : ServerState) → AreUp old.clients
-    → Keeps stream earlier (client_at old.clients number) → (run : HappensAll old events said new) (steps : List TakenStep) (taken : AllAreTaken old events said new run steps)
-    → ReadsWholeStream number stream earlier old events said new run steps taken
-reads number stream earlier [] said old new up keeps run steps taken =
+reads : (number : ℕ) (stream : List ℕ) (earlier : List ConnStep) (events : List TimedEvent) (outputs : List StepOutput) (old new : ServerState) → AreUp old.clients
+    → Keeps stream earlier (client_at old.clients number) → (run : HappensAll old events outputs new) (steps : List TakenStep) (taken : AllAreTaken old events outputs new run steps)
+    → ReadsWholeStream number stream earlier old events outputs new run steps taken
+reads number stream earlier [] outputs old new up keeps run steps taken =
     subst (λ (s : ServerState). ReadsFrom stream earlier (client_at s.clients number)) (sym run.1) (reads_from stream earlier (client_at old.clients number) keeps)
-reads number stream earlier (event ∷ others) said old new up keeps run steps taken =
+reads number stream earlier (event ∷ others) outputs old new up keeps run steps taken =
     let mid = run.0 in
     let these = taken.2 in
     let before = client_at old.clients number in
@@ -373,8 +373,8 @@ reads number stream earlier (event ∷ others) said old new up keeps run steps t
 keeps_nothing : (client : Option (ClientState GroupPlace)) → client ≡ None → Keeps [] [] client
 keeps_nothing client is = subst (Keeps [] []) (sym is) ([], refl)
 
-pub reads_in_run : (setup : Setup) (events : List TimedEvent) (said : List StepOutput) (first last : ServerState) → IsNewServer setup first → (run : HappensAll first events said last)
-    → (steps : List TakenStep) (taken : AllAreTaken first events said last run steps) (number : ℕ) → ReadsWholeStream number [] [] first events said last run steps taken
-reads_in_run setup events said first last new run steps taken number =
-    reads number [] [] events said first last (new_up setup first new)
+pub reads_in_run : (setup : Setup) (events : List TimedEvent) (outputs : List StepOutput) (first last : ServerState) → IsNewServer setup first → (run : HappensAll first events outputs last)
+    → (steps : List TakenStep) (taken : AllAreTaken first events outputs last run steps) (number : ℕ) → ReadsWholeStream number [] [] first events outputs last run steps taken
+reads_in_run setup events outputs first last new run steps taken number =
+    reads number [] [] events outputs first last (new_up setup first new)
     (keeps_nothing (client_at first.clients number) (ap (λ (l : Clients). client_at l number) new.clients ∙ none_at 64 number)) run steps taken

@@ -17,8 +17,8 @@ AreSentTo number (first ∷ others) = (first.connection ≡ number) × AreSentTo
 
 -- what is said in an event of a connection is said to that one; a close is told to each
 abbrev pub Answers : ServerEvent → List StepOutput → Type 0
-Answers (events.Open number) said = AreSentTo number said
-Answers (events.Bytes number piece) said = AreSentTo number said
-Answers (events.Tick number) said = AreSentTo number said
-Answers (events.End number) said = AreSentTo number said
-Answers events.Close said = ⊤
+Answers (events.Open number) outputs = AreSentTo number outputs
+Answers (events.Bytes number piece) outputs = AreSentTo number outputs
+Answers (events.Tick number) outputs = AreSentTo number outputs
+Answers (events.End number) outputs = AreSentTo number outputs
+Answers events.Close outputs = ⊤

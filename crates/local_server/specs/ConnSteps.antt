@@ -26,17 +26,17 @@ pub record ConnStep : Type 0 where
   pub outcomes : List (Outcome GroupPlace)
 
 -- a step wrote these PUBLISH packets and no others, each with what was left of its interval at its moment (3.3.2.3.3), and so the connection went on or not
-pub record Tells (said : StepOutput) (conn_step : ConnStep) : Type 0 where
-  pub whose : conn_step.connection ≡ said.connection
-  pub next : conn_step.next ≡ said.next
-  pub publishes : publishes_in said.packets ≡ publishes_of conn_step.at conn_step.marks
+pub record Tells (output : StepOutput) (conn_step : ConnStep) : Type 0 where
+  pub whose : conn_step.connection ≡ output.connection
+  pub next : conn_step.next ≡ output.next
+  pub publishes : publishes_in output.packets ≡ publishes_of conn_step.at conn_step.marks
 
 -- each step is told
 abbrev pub AllTell : List StepOutput → List ConnStep → Type 0
 AllTell [] [] = ⊤
 AllTell [] (conn_step ∷ conn_steps) = ⊥
-AllTell (said ∷ others) [] = ⊥
-AllTell (said ∷ others) (conn_step ∷ conn_steps) = Tells said conn_step × AllTell others conn_steps
+AllTell (output ∷ others) [] = ⊥
+AllTell (output ∷ others) (conn_step ∷ conn_steps) = Tells output conn_step × AllTell others conn_steps
 
 -- each of these steps was made at this moment
 abbrev pub AreMadeAt : ℕ → List ConnStep → Type 0

@@ -39,10 +39,10 @@ KeepsConnectionsIf true event old steps new = (number : ℕ) → KeepsConnection
 KeepsConnectionsIf false event old steps new = (steps ≡ []) × (new ≡ old)
 
 -- so it is in each event of a run, with the steps that were taken in it
-abbrev pub AllKeepConnections : (old : ServerState) (events : List TimedEvent) (said : List StepOutput) (new : ServerState) (run : HappensAll old events said new) (steps : List TakenStep)
-    → AllAreTaken old events said new run steps → Type 0
-AllKeepConnections old [] said new run steps taken = ⊤
-AllKeepConnections old (first ∷ others) said new run steps taken =
+abbrev pub AllKeepConnections : (old : ServerState) (events : List TimedEvent) (outputs : List StepOutput) (new : ServerState) (run : HappensAll old events outputs new) (steps : List TakenStep)
+    → AllAreTaken old events outputs new run steps → Type 0
+AllKeepConnections old [] outputs new run steps taken = ⊤
+AllKeepConnections old (first ∷ others) outputs new run steps taken =
     let mid = run.0 in
     KeepsConnectionsIf (is_open old.broker) first.event old.clients taken.0 mid.clients × AllKeepConnections mid others run.2 new run.4 taken.1 taken.3
 

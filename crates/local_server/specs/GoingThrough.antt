@@ -10,5 +10,5 @@ use Rattle.local_server.specs.Happening.{Happens}
 abbrev pub GoesThrough : ServerState → List TimedEvent → ServerState → Type 0
 GoesThrough old [] new = new ≡ old
 GoesThrough old (first ∷ others) new =
-    (mid : ServerState) × (said : List StepOutput) × (result : Result (Unit {0}) NoMemory)
-    × Happens old first.moment first.event said result mid × GoesThrough mid others new
+    (mid : ServerState) × (outputs : List StepOutput) × (result : Result (Unit {0}) NoMemory)
+    × Happens old first.moment first.event outputs result mid × GoesThrough mid others new

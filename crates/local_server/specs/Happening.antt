@@ -20,50 +20,50 @@ slot_of place = place.slot
 
 -- the connection of this number is told that the server closes, where it is open, and ends
 abbrev pub EndsAt : ℕ → Broker → Clients → ℕ → List StepOutput → Result (Unit {0}) NoMemory → Clients → Broker → Type 0
-EndsAt number old clients now said result clients' new =
-    InCell clients number (λ before after. EndsFor Calls slot_of old before now inputs.Closing said result after new) clients'
+EndsAt number old clients now outputs result clients' new =
+    InCell clients number (λ before after. EndsFor Calls slot_of old before now inputs.Closing outputs result after new) clients'
 
 -- So many connections are told one after the other, that of the least number first, and end; where an allocation failed for one, the next is
 -- told all the same.
 abbrev pub EndsFirst : ℕ → Broker → Clients → ℕ → List StepOutput → Result (Unit {0}) NoMemory → Clients → Broker → Type 0
-EndsFirst zero old clients now said result clients' new = (said ≡ []) × (result ≡ Ok tt) × (clients' ≡ clients) × (new ≡ old)
-EndsFirst (suc number) old clients now said result clients' new =
+EndsFirst zero old clients now outputs result clients' new = (outputs ≡ []) × (result ≡ Ok tt) × (clients' ≡ clients) × (new ≡ old)
+EndsFirst (suc number) old clients now outputs result clients' new =
     (mid : Broker) × (between : Clients) × (earlier last : List StepOutput) × (before then : Result (Unit {0}) NoMemory)
     × EndsFirst number old clients now earlier before between mid × EndsAt number mid between now last then clients' new
-    × (said ≡ earlier ++ last) × (result ≡ result_and before then)
+    × (outputs ≡ earlier ++ last) × (result ≡ result_and before then)
 
 -- the close: the groups first, and then each of the 64 connections
 abbrev pub ClosesAll : Broker → Clients → ℕ → List StepOutput → Result (Unit {0}) NoMemory → Clients → Broker → Type 0
-ClosesAll old clients now said result clients' new =
-    (closed : Broker) × Closes old closed × (many : ℕ) × (many ≡ 64) × EndsFirst many closed clients now said result clients' new
+ClosesAll old clients now outputs result clients' new =
+    (closed : Broker) × Closes old closed × (many : ℕ) × (many ≡ 64) × EndsFirst many closed clients now outputs result clients' new
 
 -- an event, at this moment, of a server that is open, where a connection is opened with this limit, and no other: what is said, and what becomes of the server; or an allocation failed
 abbrev pub Does : ServerEvent → ℕ → Broker → Clients → ℕ → List StepOutput → Result (Unit {0}) NoMemory → Clients → Broker → Type 0
-Does (events.Open number) max_inflight old clients now said result clients' new =
-    InCell clients number (Opens number (record { at = now; limits = inflight_alone max_inflight })) clients' × (new ≡ old) × (said ≡ []) × (result ≡ Ok tt)
-Does (events.Bytes number piece) max_inflight old clients now said result clients' new =
-    InCell clients number (λ before after. Receives Calls slot_of old before now piece said result after new) clients'
-Does (events.Tick number) max_inflight old clients now said result clients' new =
-    InCell clients number (λ before after. TicksFor Calls slot_of old before now said result after new) clients'
-Does (events.End number) max_inflight old clients now said result clients' new =
-    InCell clients number (λ before after. EndsFor Calls slot_of old before now inputs.EndOfInput said result after new) clients'
-Does events.Close max_inflight old clients now said result clients' new = ClosesAll old clients now said result clients' new
+Does (events.Open number) max_inflight old clients now outputs result clients' new =
+    InCell clients number (Opens number (record { at = now; limits = inflight_alone max_inflight })) clients' × (new ≡ old) × (outputs ≡ []) × (result ≡ Ok tt)
+Does (events.Bytes number piece) max_inflight old clients now outputs result clients' new =
+    InCell clients number (λ before after. Receives Calls slot_of old before now piece outputs result after new) clients'
+Does (events.Tick number) max_inflight old clients now outputs result clients' new =
+    InCell clients number (λ before after. TicksFor Calls slot_of old before now outputs result after new) clients'
+Does (events.End number) max_inflight old clients now outputs result clients' new =
+    InCell clients number (λ before after. EndsFor Calls slot_of old before now inputs.EndOfInput outputs result after new) clients'
+Does events.Close max_inflight old clients now outputs result clients' new = ClosesAll old clients now outputs result clients' new
 
 -- after the close events are passed over
 abbrev pub DoesIf : Bool → ServerEvent → ℕ → Broker → Clients → ℕ → List StepOutput → Result (Unit {0}) NoMemory → Clients → Broker → Type 0
-DoesIf true event max_inflight old clients now said result clients' new = Does event max_inflight old clients now said result clients' new
-DoesIf false event max_inflight old clients now said result clients' new = (said ≡ []) × (result ≡ Ok tt) × (clients' ≡ clients) × (new ≡ old)
+DoesIf true event max_inflight old clients now outputs result clients' new = Does event max_inflight old clients now outputs result clients' new
+DoesIf false event max_inflight old clients now outputs result clients' new = (outputs ≡ []) × (result ≡ Ok tt) × (clients' ≡ clients) × (new ≡ old)
 
 -- an event at a moment
-pub record Happens (old : ServerState) (moment : ℕ) (event : ServerEvent) (said : List StepOutput) (result : Result (Unit {0}) NoMemory) (new : ServerState) : Type 0 where
+pub record Happens (old : ServerState) (moment : ℕ) (event : ServerEvent) (outputs : List StepOutput) (result : Result (Unit {0}) NoMemory) (new : ServerState) : Type 0 where
   -- where the clock went back, the later moment stands
   pub clock : new.clock ≡ max old.clock moment
   pub max_inflight : new.max_inflight ≡ old.max_inflight
-  pub does : DoesIf (is_open old.broker) event old.max_inflight old.broker old.clients new.clock said result new.clients new.broker
+  pub does : DoesIf (is_open old.broker) event old.max_inflight old.broker old.clients new.clock outputs result new.clients new.broker
 
 -- one event after another, and what is said in them
 abbrev pub HappensAll : ServerState → List TimedEvent → List StepOutput → ServerState → Type 0
-HappensAll old [] said new = (said ≡ []) × (new ≡ old)
-HappensAll old (first ∷ others) said new =
+HappensAll old [] outputs new = (outputs ≡ []) × (new ≡ old)
+HappensAll old (first ∷ others) outputs new =
     (mid : ServerState) × (now later : List StepOutput)
-    × Happens old first.moment first.event now (Ok tt) mid × HappensAll mid others later new × (said ≡ now ++ later)
+    × Happens old first.moment first.event now (Ok tt) mid × HappensAll mid others later new × (outputs ≡ now ++ later)

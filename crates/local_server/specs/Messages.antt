@@ -85,9 +85,9 @@ abbrev pub all_sent : List ConnStep → List Held
 all_sent conn_steps = flat_map (λ conn_step. filter_map sent_in conn_step.marks) conn_steps
 
 -- what holds of a run: what is sent is what was accepted
-pub record SendsWhatWasAccepted (first : ServerState) (events : List TimedEvent) (said : List StepOutput) (last : ServerState) (run : HappensAll first events said last) : Type 0 where
+pub record SendsWhatWasAccepted (first : ServerState) (events : List TimedEvent) (outputs : List StepOutput) (last : ServerState) (run : HappensAll first events outputs last) : Type 0 where
   -- the transcripts of the sessions, and what is settled in them
-  pub settling : SettlesWhatIsAcknowledged first events said last run
+  pub settling : SettlesWhatIsAcknowledged first events outputs last run
   -- what the eight groups accepted, in its order, each the message of a PUBLISH that came
   pub eight : length last.broker.groups ≡ 8
   pub accepted : List Accepted

@@ -98,9 +98,9 @@ HeldIsOut b None = ⊤
 HeldIsOut b (Some connected) = AreOutFor b connected.session.membership (held_of connected.session.window)
 
 -- what holds of a run: what is acknowledged is settled
-pub record SettlesWhatIsAcknowledged (first : ServerState) (events : List TimedEvent) (said : List StepOutput) (last : ServerState) (run : HappensAll first events said last) : Type 0 where
+pub record SettlesWhatIsAcknowledged (first : ServerState) (events : List TimedEvent) (outputs : List StepOutput) (last : ServerState) (run : HappensAll first events outputs last) : Type 0 where
   -- the transcripts of the sessions, over the steps of their connections
-  pub transcripts : KeepsTranscripts first events said last run
+  pub transcripts : KeepsTranscripts first events outputs last run
   -- what the steps acknowledge, in their order: the PUBACKs that came for what their sessions held, each for the message under its identifier, with
   -- the fate of its Reason Code; and what each of them discards of what it was handed
   pub settled : List Settlement

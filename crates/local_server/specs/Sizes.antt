@@ -8,14 +8,14 @@ use Rattle.client_table.specs.Clients.{StepOutput}
 
 -- each packet that is said is so
 abbrev pub AllSent : (Packet → Type 0) → List StepOutput → Type 0
-AllSent IsSo said = AllByRecursion (λ one. AllByRecursion IsSo one.packets) said
+AllSent IsSo outputs = AllByRecursion (λ one. AllByRecursion IsSo one.packets) outputs
 
 abbrev pub AllShort : List StepOutput → Type 0
-AllShort said = AllSent IsShort said
+AllShort outputs = AllSent IsShort outputs
 
 -- a packet that can be written: its Remaining Length can be said (2.1.4)
 abbrev pub IsWritable : Packet → Type 0
 IsWritable packet = remaining_length packet ≤ 268435455
 
 abbrev pub AllWritable : List StepOutput → Type 0
-AllWritable said = AllSent IsWritable said
+AllWritable outputs = AllSent IsWritable outputs

@@ -76,9 +76,9 @@ EventIsAnsweredIf true event old conn_steps new = EventIsAnswered event old conn
 EventIsAnsweredIf false event old conn_steps new = conn_steps ≡ []
 
 -- the steps of a run answer what came in its events, one event after the other: each has those that were taken in it, at the moment of the server's clock then
-abbrev pub AllAreAnswered : (old : ServerState) (events : List TimedEvent) (said : List StepOutput) (new : ServerState) → HappensAll old events said new → List ConnStep → Type 0
-AllAreAnswered old [] said new run conn_steps = conn_steps ≡ []
-AllAreAnswered old (first ∷ others) said new run conn_steps =
+abbrev pub AllAreAnswered : (old : ServerState) (events : List TimedEvent) (outputs : List StepOutput) (new : ServerState) → HappensAll old events outputs new → List ConnStep → Type 0
+AllAreAnswered old [] outputs new run conn_steps = conn_steps ≡ []
+AllAreAnswered old (first ∷ others) outputs new run conn_steps =
     let mid = run.0 in
     let now = run.1 in
     (these later : List ConnStep) × AllTell now these × AreMadeAt mid.clock these × EventIsAnsweredIf (is_open old.broker) first.event old.clients these mid.clients

@@ -116,16 +116,16 @@ AreTakenIf false event old steps new = (steps ≡ []) × (new.broker ≡ old.bro
 
 -- The steps of an event: what is said in it is what these sent, each is a step of the step law, made at the moment of the server's clock then, they lead from
 -- the server before the event to the server after it, and they answer what came in it.
-pub record EventIsTaken (old : ServerState) (event : ServerEvent) (said : List StepOutput) (steps : List TakenStep) (new : ServerState) : Type 0 where
-  pub outputs : said ≡ map output_of steps
+pub record EventIsTaken (old : ServerState) (event : ServerEvent) (outputs : List StepOutput) (steps : List TakenStep) (new : ServerState) : Type 0 where
+  pub outputs_are : outputs ≡ map output_of steps
   pub lawful : AllByRecursion IsLawfulStep steps
   pub made : AllByRecursion (λ step. step.at ≡ new.clock) steps
   pub lead : AreTakenIf (is_open old.broker) event old steps new
   pub answer : EventIsAnsweredIf (is_open old.broker) event old.clients (map conn_step_of steps) new.clients
 
 -- the steps of a run, event by event
-abbrev pub AllAreTaken : (old : ServerState) (events : List TimedEvent) (said : List StepOutput) (new : ServerState) → HappensAll old events said new → List TakenStep → Type 0
-AllAreTaken old [] said new run steps = steps ≡ []
-AllAreTaken old (first ∷ others) said new run steps =
+abbrev pub AllAreTaken : (old : ServerState) (events : List TimedEvent) (outputs : List StepOutput) (new : ServerState) → HappensAll old events outputs new → List TakenStep → Type 0
+AllAreTaken old [] outputs new run steps = steps ≡ []
+AllAreTaken old (first ∷ others) outputs new run steps =
     let mid = run.0 in
     (these later : List TakenStep) × EventIsTaken old first.event run.1 these mid × AllAreTaken mid others run.2 new run.4 later × (steps ≡ these ++ later)

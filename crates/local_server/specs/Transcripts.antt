@@ -148,20 +148,20 @@ pub record AccountFor (conn_steps : List ConnStep) (server : ServerState) : Type
       → handed_in_all group.events ≡ filter_map (seen_by slot) (all_handed conn_steps)
 
 -- what holds of the transcripts of a run
-pub record KeepsTranscripts (first : ServerState) (events : List TimedEvent) (said : List StepOutput) (last : ServerState) (run : HappensAll first events said last) : Type 0 where
+pub record KeepsTranscripts (first : ServerState) (events : List TimedEvent) (outputs : List StepOutput) (last : ServerState) (run : HappensAll first events outputs last) : Type 0 where
   pub conn_steps : List ConnStep
   -- each step, with the PUBLISH packets that it wrote
-  pub told : AllTell said conn_steps
+  pub told : AllTell outputs conn_steps
   -- they answer what came, each at its moment
-  pub came : AllAreAnswered first events said last run conn_steps
+  pub came : AllAreAnswered first events outputs last run conn_steps
   -- and they led the server to where it is
   pub account : AccountFor conn_steps last
 
 -- Along a run, from a server that these steps led to where it is: each event adds the steps of its own steps after those before, of which none
 -- is told anew, they were made at the moment of the server's clock then, and they answer what came in it; and at each moment, before the first event and after each one, the steps till then led the server to where it is.
-abbrev pub AccountAlong : (conn_steps : List ConnStep) (old : ServerState) (events : List TimedEvent) (said : List StepOutput) (new : ServerState) → HappensAll old events said new → Type 0
-AccountAlong conn_steps old [] said new run = AccountFor conn_steps old
-AccountAlong conn_steps old (first ∷ others) said new run =
+abbrev pub AccountAlong : (conn_steps : List ConnStep) (old : ServerState) (events : List TimedEvent) (outputs : List StepOutput) (new : ServerState) → HappensAll old events outputs new → Type 0
+AccountAlong conn_steps old [] outputs new run = AccountFor conn_steps old
+AccountAlong conn_steps old (first ∷ others) outputs new run =
     let mid = run.0 in
     let now = run.1 in
     let later = run.2 in

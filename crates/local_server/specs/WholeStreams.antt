@@ -53,10 +53,10 @@ since_opening false earlier these = earlier ++ these
 
 -- Before each event of a run and after the last: the pieces that came on the connection of this number since it was opened, one after the other, are what its steps since then
 -- read, packet by packet in their order, and what is left. That is what an open connection has unread; of one that has ended nothing more is read.
-abbrev pub ReadsWholeStream : (number : ℕ) (stream : List ℕ) (earlier : List ConnStep) (old : ServerState) (events : List TimedEvent) (said : List StepOutput) (new : ServerState)
-    (run : HappensAll old events said new) (steps : List TakenStep) → AllAreTaken old events said new run steps → Type 0
-ReadsWholeStream number stream earlier old [] said new run steps taken = ReadsFrom stream earlier (client_at new.clients number)
-ReadsWholeStream number stream earlier old (first ∷ others) said new run steps taken =
+abbrev pub ReadsWholeStream : (number : ℕ) (stream : List ℕ) (earlier : List ConnStep) (old : ServerState) (events : List TimedEvent) (outputs : List StepOutput) (new : ServerState)
+    (run : HappensAll old events outputs new) (steps : List TakenStep) → AllAreTaken old events outputs new run steps → Type 0
+ReadsWholeStream number stream earlier old [] outputs new run steps taken = ReadsFrom stream earlier (client_at new.clients number)
+ReadsWholeStream number stream earlier old (first ∷ others) outputs new run steps taken =
     let mid = run.0 in
     let client = client_at old.clients number in
     let anew = begins (is_open old.broker) client first.event number in

@@ -49,11 +49,11 @@ pub fn headline_law()
 /// **An event is a list of calls** of what the connections share, and perhaps its close, whether an allocation failed or not (`one`); and so
 /// are many (`all`). So each law of `local_broker` holds after every event. The runs in which no allocation failed are among these (`without`).
 pub fn happenings_law()
-    ensures one { (moment : ℕ) (event : ServerEvent) (said : List StepOutput) (result : Result (Unit {0}) NoMemory) (old new : ServerState) →
-        Happens old moment event said result new → IsReachedBy old.broker new.broker }
+    ensures one { (moment : ℕ) (event : ServerEvent) (outputs : List StepOutput) (result : Result (Unit {0}) NoMemory) (old new : ServerState) →
+        Happens old moment event outputs result new → IsReachedBy old.broker new.broker }
     ensures all { (events : List TimedEvent) (old new : ServerState) → GoesThrough old events new → IsReachedBy old.broker new.broker }
-    ensures without { (events : List TimedEvent) (said : List StepOutput) (old new : ServerState) →
-        HappensAll old events said new → GoesThrough old events new }
+    ensures without { (events : List TimedEvent) (outputs : List StepOutput) (old new : ServerState) →
+        HappensAll old events outputs new → GoesThrough old events new }
 {}
 
 /// **Each group runs lawfully, whatever happens to its server**, with memory and without: its events are a run to where its jobs are. So each accepted
@@ -72,8 +72,8 @@ pub fn running_law()
 /// Subscription Identifier, the transcripts tell (`transcript_law`).
 /// The runs are those in which no allocation failed.
 pub fn hand_out_law()
-    ensures { (setup : Setup) (events : List TimedEvent) (said : List StepOutput) (first last : ServerState) →
-        IsNewServer setup first → HappensAll first events said last → HandsOutWhatIsSent last said }
+    ensures { (setup : Setup) (events : List TimedEvent) (outputs : List StepOutput) (first last : ServerState) →
+        IsNewServer setup first → HappensAll first events outputs last → HandsOutWhatIsSent last outputs }
 {}
 
 /// **The transcript of each session is legal, along every run** (sections 4.4 and 4.9), over however many connections the session is resumed
@@ -89,20 +89,20 @@ pub fn hand_out_law()
 /// parked session holds is as its transcript has it. And the hand-outs that a group's events tell, first and later ones, are what is sent with DUP 0,
 /// in that order. The runs are those in which no allocation failed.
 pub fn transcript_law()
-    ensures whole { (setup : Setup) (events : List TimedEvent) (said : List StepOutput) (first last : ServerState) →
-        IsNewServer setup first → (run : HappensAll first events said last) → KeepsTranscripts first events said last run }
-    ensures along { (setup : Setup) (events : List TimedEvent) (said : List StepOutput) (first last : ServerState) →
-        IsNewServer setup first → (run : HappensAll first events said last) → AccountAlong [] first events said last run }
+    ensures whole { (setup : Setup) (events : List TimedEvent) (outputs : List StepOutput) (first last : ServerState) →
+        IsNewServer setup first → (run : HappensAll first events outputs last) → KeepsTranscripts first events outputs last run }
+    ensures along { (setup : Setup) (events : List TimedEvent) (outputs : List StepOutput) (first last : ServerState) →
+        IsNewServer setup first → (run : HappensAll first events outputs last) → AccountAlong [] first events outputs last run }
 {}
 
 /// **What was given back is handed out first**, in every run (profile): whenever a message is first handed out in a group, none of its messages
 /// waits that was given back (`all`). It is so after whatever events, and after one more, whether an allocation failed in that or not (`one`).
 pub fn eager_law()
-    ensures one { (setup : Setup) (events : List TimedEvent) (earlier said : List StepOutput) (moment : ℕ) (event : ServerEvent) (result : Result (Unit {0}) NoMemory)
+    ensures one { (setup : Setup) (events : List TimedEvent) (earlier outputs : List StepOutput) (moment : ℕ) (event : ServerEvent) (result : Result (Unit {0}) NoMemory)
         (first old new : ServerState) →
-        IsNewServer setup first → HappensAll first events earlier old → Happens old moment event said result new → AllHandReturnedFirst new.broker }
-    ensures all { (setup : Setup) (events : List TimedEvent) (said : List StepOutput) (first last : ServerState) →
-        IsNewServer setup first → HappensAll first events said last → AllHandReturnedFirst last.broker }
+        IsNewServer setup first → HappensAll first events earlier old → Happens old moment event outputs result new → AllHandReturnedFirst new.broker }
+    ensures all { (setup : Setup) (events : List TimedEvent) (outputs : List StepOutput) (first last : ServerState) →
+        IsNewServer setup first → HappensAll first events outputs last → AllHandReturnedFirst last.broker }
 {}
 
 /// **What is acknowledged is settled**, along every run (sections 3.4 and 4.3.2): the events of a group by which a message is acknowledged, refused or discarded
@@ -112,8 +112,8 @@ pub fn eager_law()
 /// a group settles anything else. And each is the PUBACK that came for it, and no PUBACK that comes for what a session holds is passed over, where
 /// its connection goes on. The runs are those in which no allocation failed.
 pub fn settling_law()
-    ensures { (setup : Setup) (events : List TimedEvent) (said : List StepOutput) (first last : ServerState) →
-        IsNewServer setup first → (run : HappensAll first events said last) → SettlesWhatIsAcknowledged first events said last run }
+    ensures { (setup : Setup) (events : List TimedEvent) (outputs : List StepOutput) (first last : ServerState) →
+        IsNewServer setup first → (run : HappensAll first events outputs last) → SettlesWhatIsAcknowledged first events outputs last run }
 {}
 
 /// **What is sent is what was accepted**, along every run (sections 3.3, 4.3.2 and 4.4): each PUBLISH packet that a session is sent, with DUP 0 or 1, is
@@ -122,18 +122,18 @@ pub fn settling_law()
 /// each with the moment of the step in which it came, from which its interval counts (section 3.3.2.3.3), through the port of the connection that it came
 /// from, and once by each of some groups. The runs are those in which no allocation failed.
 pub fn message_law()
-    ensures { (setup : Setup) (events : List TimedEvent) (said : List StepOutput) (first last : ServerState) →
-        IsNewServer setup first → (run : HappensAll first events said last) → SendsWhatWasAccepted first events said last run }
+    ensures { (setup : Setup) (events : List TimedEvent) (outputs : List StepOutput) (first last : ServerState) →
+        IsNewServer setup first → (run : HappensAll first events outputs last) → SendsWhatWasAccepted first events outputs last run }
 {}
 
 /// **No packet is too long to be written**, along every run (section 2.1.4): each packet that is said has at most 65,564 bytes in all (`short`), and so a
 /// Remaining Length that can be said: `mqtt_wire`'s `encode` refuses none as too large (`writable`). For a message is handed on as it came in a PUBLISH
 /// that was read, which has at most 65,536 bytes. The runs are those in which no allocation failed.
 pub fn size_law()
-    ensures short { (setup : Setup) (events : List TimedEvent) (said : List StepOutput) (first last : ServerState) →
-        IsNewServer setup first → HappensAll first events said last → AllShort said }
-    ensures writable { (setup : Setup) (events : List TimedEvent) (said : List StepOutput) (first last : ServerState) →
-        IsNewServer setup first → HappensAll first events said last → AllWritable said }
+    ensures short { (setup : Setup) (events : List TimedEvent) (outputs : List StepOutput) (first last : ServerState) →
+        IsNewServer setup first → HappensAll first events outputs last → AllShort outputs }
+    ensures writable { (setup : Setup) (events : List TimedEvent) (outputs : List StepOutput) (first last : ServerState) →
+        IsNewServer setup first → HappensAll first events outputs last → AllWritable outputs }
 {}
 
 /// **The desk law holds, whatever happens to the server**, with memory and without: at most 256 sessions, no two of one client that are lent or parked,
@@ -147,8 +147,8 @@ pub fn desk_law()
 /// packets that were sent on it, those that wait for their PUBACK are never more than the Receive Maximum that its terms have, which are those of
 /// its CONNECT by the step law, and never more than 256.
 pub fn quota_law()
-    ensures one { (moment : ℕ) (event : ServerEvent) (said : List StepOutput) (result : Result (Unit {0}) NoMemory) (old new : ServerState) →
-        Happens old moment event said result new → AllWithinQuota old.clients → AllWithinQuota new.clients }
+    ensures one { (moment : ℕ) (event : ServerEvent) (outputs : List StepOutput) (result : Result (Unit {0}) NoMemory) (old new : ServerState) →
+        Happens old moment event outputs result new → AllWithinQuota old.clients → AllWithinQuota new.clients }
     ensures all { (setup : Setup) (events : List TimedEvent) (first last : ServerState) →
         IsNewServer setup first → GoesThrough first events last → AllWithinQuota last.clients }
 {}
@@ -156,34 +156,34 @@ pub fn quota_law()
 /// **What is said in an event of a connection is said to that one**, after whatever events, whether an allocation failed in it, or in any before it, or
 /// not.
 pub fn addressing_law()
-    ensures { (setup : Setup) (events : List TimedEvent) (said : List StepOutput) (moment : ℕ) (event : ServerEvent) (result : Result (Unit {0}) NoMemory)
+    ensures { (setup : Setup) (events : List TimedEvent) (outputs : List StepOutput) (moment : ℕ) (event : ServerEvent) (result : Result (Unit {0}) NoMemory)
         (first old new : ServerState) →
-        IsNewServer setup first → GoesThrough first events old → Happens old moment event said result new → Answers event said }
+        IsNewServer setup first → GoesThrough first events old → Happens old moment event outputs result new → Answers event outputs }
 {}
 
 /// **A port is its publisher's connection**: whatever a group accepts in an event of a connection, it accepts through the port of that connection's number, and
 /// in a close it accepts nothing; after whatever events, whether an allocation failed in it, or in any before it, or not.
 pub fn publisher_law()
-    ensures { (setup : Setup) (events : List TimedEvent) (said : List StepOutput) (moment : ℕ) (event : ServerEvent) (result : Result (Unit {0}) NoMemory)
+    ensures { (setup : Setup) (events : List TimedEvent) (outputs : List StepOutput) (moment : ℕ) (event : ServerEvent) (result : Result (Unit {0}) NoMemory)
         (first old new : ServerState) →
-        IsNewServer setup first → GoesThrough first events old → Happens old moment event said result new → AcceptsFrom event old.broker new.broker }
+        IsNewServer setup first → GoesThrough first events old → Happens old moment event outputs result new → AcceptsFrom event old.broker new.broker }
 {}
 
 /// **A close ends every connection**, whether an allocation failed or not: none of the 64 is open after it.
 pub fn emptying_law()
-    ensures { (moment : ℕ) (said : List StepOutput) (result : Result (Unit {0}) NoMemory) (old new : ServerState) →
-        is_open old.broker ≡ true → Happens old moment events.Close said result new → HasNoneBelow 64 new.clients }
+    ensures { (moment : ℕ) (outputs : List StepOutput) (result : Result (Unit {0}) NoMemory) (old new : ServerState) →
+        is_open old.broker ≡ true → Happens old moment events.Close outputs result new → HasNoneBelow 64 new.clients }
 {}
 
 /// **The close is what happens last in each group**: where it wants no memory, each group has after it the events of before, the close, and
 /// no other (`last`). After it nothing happens any more, and nothing is said.
 pub fn closing_law()
-    ensures last { (moment : ℕ) (said : List StepOutput) (old new : ServerState) →
-        is_open old.broker ≡ true → Happens old moment events.Close said (Ok tt) new → AllAddTheClose old.broker new.broker }
-    ensures silent { (events : List TimedEvent) (said : List StepOutput) (old new : ServerState) →
-        is_open old.broker ≡ false → HappensAll old events said new → said ≡ [] }
-    ensures still { (events : List TimedEvent) (said : List StepOutput) (old new : ServerState) →
-        is_open old.broker ≡ false → HappensAll old events said new → (new.broker ≡ old.broker) × (new.clients ≡ old.clients) }
+    ensures last { (moment : ℕ) (outputs : List StepOutput) (old new : ServerState) →
+        is_open old.broker ≡ true → Happens old moment events.Close outputs (Ok tt) new → AllAddTheClose old.broker new.broker }
+    ensures silent { (events : List TimedEvent) (outputs : List StepOutput) (old new : ServerState) →
+        is_open old.broker ≡ false → HappensAll old events outputs new → outputs ≡ [] }
+    ensures still { (events : List TimedEvent) (outputs : List StepOutput) (old new : ServerState) →
+        is_open old.broker ≡ false → HappensAll old events outputs new → (new.broker ≡ old.broker) × (new.clients ≡ old.clients) }
 {}
 
 /// **A run has one outcome**, where no allocation failed: whatever events happen to two servers of one setup, the same is said in them,
@@ -191,12 +191,12 @@ pub fn closing_law()
 /// and says the same in both (`one`).
 pub fn one_run_law()
     ensures new { (setup : Setup) (a b : ServerState) → IsNewServer setup a → IsNewServer setup b → AreAlike a b }
-    ensures one { (moment : ℕ) (event : ServerEvent) (said said' : List StepOutput) (a b a' b' : ServerState) →
+    ensures one { (moment : ℕ) (event : ServerEvent) (outputs outputs' : List StepOutput) (a b a' b' : ServerState) →
         AreAlike a b → DeskLaw a.broker.desk.rows a.broker.desk.made →
-        Happens a moment event said (Ok tt) a' → Happens b moment event said' (Ok tt) b' → (said ≡ said') × AreAlike a' b' }
-    ensures all { (setup : Setup) (events : List TimedEvent) (said said' : List StepOutput) (first first' last last' : ServerState) →
+        Happens a moment event outputs (Ok tt) a' → Happens b moment event outputs' (Ok tt) b' → (outputs ≡ outputs') × AreAlike a' b' }
+    ensures all { (setup : Setup) (events : List TimedEvent) (outputs outputs' : List StepOutput) (first first' last last' : ServerState) →
         IsNewServer setup first → IsNewServer setup first' →
-        HappensAll first events said last → HappensAll first' events said' last' → (said ≡ said') × AreAlike last last' }
+        HappensAll first events outputs last → HappensAll first' events outputs' last' → (outputs ≡ outputs') × AreAlike last last' }
 {}
 
 /// **Each step answers what came in it**, along every run: there is one list of steps, each with what came, what was sent, and how far its connection had come and
@@ -212,9 +212,9 @@ pub fn one_run_law()
 ///
 /// The runs are those in which no allocation failed.
 pub fn answers_law()
-    ensures { (setup : Setup) (events : List TimedEvent) (said : List StepOutput) (first last : ServerState) →
-        IsNewServer setup first → (run : HappensAll first events said last) →
-        (steps : List TakenStep) × AllAreTaken first events said last run steps }
+    ensures { (setup : Setup) (events : List TimedEvent) (outputs : List StepOutput) (first last : ServerState) →
+        IsNewServer setup first → (run : HappensAll first events outputs last) →
+        (steps : List TakenStep) × AllAreTaken first events outputs last run steps }
 {}
 
 /// **No connection vanishes**, along every run in which no allocation failed (`kept`): one that is open before an event is open after it, or the last step that it takes in the
@@ -223,11 +223,11 @@ pub fn answers_law()
 /// the end of its input.
 /// And an event of one connection leaves each other as it is, whether an allocation failed in it or not (`others`).
 pub fn connections_law()
-    ensures kept { (setup : Setup) (events : List TimedEvent) (said : List StepOutput) (first last : ServerState) →
-        IsNewServer setup first → (run : HappensAll first events said last) →
-        (steps : List TakenStep) (taken : AllAreTaken first events said last run steps) → AllKeepConnections first events said last run steps taken }
-    ensures others { (moment : ℕ) (event : ServerEvent) (said : List StepOutput) (result : Result (Unit {0}) NoMemory) (old new : ServerState) (connection : ℕ) →
-        Happens old moment event said result new → IsOfAnother event connection → client_at new.clients connection ≡ client_at old.clients connection }
+    ensures kept { (setup : Setup) (events : List TimedEvent) (outputs : List StepOutput) (first last : ServerState) →
+        IsNewServer setup first → (run : HappensAll first events outputs last) →
+        (steps : List TakenStep) (taken : AllAreTaken first events outputs last run steps) → AllKeepConnections first events outputs last run steps taken }
+    ensures others { (moment : ℕ) (event : ServerEvent) (outputs : List StepOutput) (result : Result (Unit {0}) NoMemory) (old new : ServerState) (connection : ℕ) →
+        Happens old moment event outputs result new → IsOfAnother event connection → client_at new.clients connection ≡ client_at old.clients connection }
 {}
 
 /// **A PUBACK says which groups accepted the message** (section 3.4.2.1), along every run: a step in which a PUBLISH of QoS 1 is acknowledged sends one PUBACK, of its
@@ -238,9 +238,9 @@ pub fn connections_law()
 /// message it was, `message_law` says.
 /// The runs are those in which no allocation failed.
 pub fn acceptance_law()
-    ensures { (setup : Setup) (events : List TimedEvent) (said : List StepOutput) (first last : ServerState) →
-        IsNewServer setup first → (run : HappensAll first events said last) →
-        (steps : List TakenStep) → AllAreTaken first events said last run steps → AllByRecursion AcknowledgesWhatIsAccepted steps }
+    ensures { (setup : Setup) (events : List TimedEvent) (outputs : List StepOutput) (first last : ServerState) →
+        IsNewServer setup first → (run : HappensAll first events outputs last) →
+        (steps : List TakenStep) → AllAreTaken first events outputs last run steps → AllByRecursion AcknowledgesWhatIsAccepted steps }
 {}
 
 /// **A step leaves nothing to its client that could go**, along every run (sections 4.4, 4.6 and 4.9): after each step that leaves its client with its session, no message of an
@@ -249,9 +249,9 @@ pub fn acceptance_law()
 /// speaks of the client whose step it is: what another client's step queues waits for the member's own next step.
 /// The runs are those in which no allocation failed.
 pub fn nothing_waits_law()
-    ensures { (setup : Setup) (events : List TimedEvent) (said : List StepOutput) (first last : ServerState) →
-        IsNewServer setup first → (run : HappensAll first events said last) →
-        (steps : List TakenStep) → AllAreTaken first events said last run steps → AllByRecursion LeavesNothing steps }
+    ensures { (setup : Setup) (events : List TimedEvent) (outputs : List StepOutput) (first last : ServerState) →
+        IsNewServer setup first → (run : HappensAll first events outputs last) →
+        (steps : List TakenStep) → AllAreTaken first events outputs last run steps → AllByRecursion LeavesNothing steps }
 {}
 
 /// **Who leaves its group is handed nothing from then on**, along every run, between any two steps, also inside one piece of a client's stream (sections 3.8 to 3.11; profile):
@@ -260,12 +260,12 @@ pub fn nothing_waits_law()
 /// with DUP 0.
 /// The runs are those in which no allocation failed.
 pub fn leaving_law()
-    ensures connection { (setup : Setup) (events : List TimedEvent) (said : List StepOutput) (first last : ServerState) →
-        IsNewServer setup first → (run : HappensAll first events said last) →
-        (steps : List TakenStep) → AllAreTaken first events said last run steps → (connection : ℕ) → HandsNothingToWhoLeft (steps_of connection steps) }
-    ensures session { (setup : Setup) (events : List TimedEvent) (said : List StepOutput) (first last : ServerState) →
-        IsNewServer setup first → (run : HappensAll first events said last) →
-        (steps : List TakenStep) → AllAreTaken first events said last run steps → HandsNothingToSessionsThatLeft steps }
+    ensures connection { (setup : Setup) (events : List TimedEvent) (outputs : List StepOutput) (first last : ServerState) →
+        IsNewServer setup first → (run : HappensAll first events outputs last) →
+        (steps : List TakenStep) → AllAreTaken first events outputs last run steps → (connection : ℕ) → HandsNothingToWhoLeft (steps_of connection steps) }
+    ensures session { (setup : Setup) (events : List TimedEvent) (outputs : List StepOutput) (first last : ServerState) →
+        IsNewServer setup first → (run : HappensAll first events outputs last) →
+        (steps : List TakenStep) → AllAreTaken first events outputs last run steps → HandsNothingToSessionsThatLeft steps }
 {}
 
 /// **No client is sent a packet that is longer than it takes**, along every run (section 3.1.2.11.4): no packet of a step has more bytes in all than the Maximum Packet
@@ -277,12 +277,12 @@ pub fn leaving_law()
 ///
 /// The runs are those in which no allocation failed.
 pub fn packet_size_law()
-    ensures each { (setup : Setup) (events : List TimedEvent) (said : List StepOutput) (first last : ServerState) →
-        IsNewServer setup first → (run : HappensAll first events said last) →
-        (steps : List TakenStep) → AllAreTaken first events said last run steps → AllByRecursion SendsWhatFits steps }
-    ensures connect { (setup : Setup) (events : List TimedEvent) (said : List StepOutput) (first last : ServerState) →
-        IsNewServer setup first → (run : HappensAll first events said last) →
-        (steps : List TakenStep) → AllAreTaken first events said last run steps → (connection : ℕ) → FitTheirConnects None (steps_of connection steps) }
+    ensures each { (setup : Setup) (events : List TimedEvent) (outputs : List StepOutput) (first last : ServerState) →
+        IsNewServer setup first → (run : HappensAll first events outputs last) →
+        (steps : List TakenStep) → AllAreTaken first events outputs last run steps → AllByRecursion SendsWhatFits steps }
+    ensures connect { (setup : Setup) (events : List TimedEvent) (outputs : List StepOutput) (first last : ServerState) →
+        IsNewServer setup first → (run : HappensAll first events outputs last) →
+        (steps : List TakenStep) → AllAreTaken first events outputs last run steps → (connection : ℕ) → FitTheirConnects None (steps_of connection steps) }
 {}
 
 /// **The quota is that of the CONNECT that came** (sections 3.1.2.11.3 and 4.9), along every run: after each step, of the PUBLISH packets that were sent on a connection no more
@@ -291,9 +291,9 @@ pub fn packet_size_law()
 /// Maximum, or the server's limit where that is less, its Session Expiry Interval, its Keep Alive and its Maximum Packet Size.
 /// The runs are those in which no allocation failed.
 pub fn receive_maximum_law()
-    ensures { (setup : Setup) (events : List TimedEvent) (said : List StepOutput) (first last : ServerState) →
-        IsNewServer setup first → (run : HappensAll first events said last) →
-        (steps : List TakenStep) → AllAreTaken first events said last run steps →
+    ensures { (setup : Setup) (events : List TimedEvent) (outputs : List StepOutput) (first last : ServerState) →
+        IsNewServer setup first → (run : HappensAll first events outputs last) →
+        (steps : List TakenStep) → AllAreTaken first events outputs last run steps →
         (connection : ℕ) → KeepToTheirConnects setup.max_inflight None (steps_of connection steps) }
 {}
 
@@ -310,9 +310,9 @@ pub fn receive_maximum_law()
 /// was accepted under its stamp `message_law` says of what is sent alone.
 /// The runs are those in which no allocation failed.
 pub fn discard_law()
-    ensures { (setup : Setup) (events : List TimedEvent) (said : List StepOutput) (first last : ServerState) →
-        IsNewServer setup first → (run : HappensAll first events said last) →
-        (steps : List TakenStep) → AllAreTaken first events said last run steps → AllByRecursion DiscardsExpiredOrTooLong steps }
+    ensures { (setup : Setup) (events : List TimedEvent) (outputs : List StepOutput) (first last : ServerState) →
+        IsNewServer setup first → (run : HappensAll first events outputs last) →
+        (steps : List TakenStep) → AllAreTaken first events outputs last run steps → AllByRecursion DiscardsExpiredOrTooLong steps }
 {}
 
 /// **The whole stream of a connection is read packet by packet** (sections 2.1 and 4.13), along every run: before each event and after the last, the pieces that came on a
@@ -324,7 +324,7 @@ pub fn discard_law()
 ///
 /// The steps are those of `answers_law`. The runs are those in which no allocation failed.
 pub fn stream_law()
-    ensures { (setup : Setup) (events : List TimedEvent) (said : List StepOutput) (first last : ServerState) →
-        IsNewServer setup first → (run : HappensAll first events said last) →
-        (steps : List TakenStep) (taken : AllAreTaken first events said last run steps) → (connection : ℕ) → ReadsWholeStream connection [] [] first events said last run steps taken }
+    ensures { (setup : Setup) (events : List TimedEvent) (outputs : List StepOutput) (first last : ServerState) →
+        IsNewServer setup first → (run : HappensAll first events outputs last) →
+        (steps : List TakenStep) (taken : AllAreTaken first events outputs last run steps) → (connection : ℕ) → ReadsWholeStream connection [] [] first events outputs last run steps taken }
 {}

@@ -5,9 +5,9 @@
 //! let setup = Setup { capacity, max_inflight: MaxInflight::most(), groups }; // in each group at most 1,024 messages wait
 //! let mut server = Server::open(alloc, setup)?;
 //! let number = ConnectionNumber::new(0)?;
-//! server.happen(0, &Event::Open(number), &mut said)?; // a client connects, at the moment 0
-//! server.happen(3, &Event::Bytes(number, piece), &mut said)?; // what it sent: `said` has the answers
-//! server.happen(9, &Event::Close, &mut said)?; // every client is told
+//! server.happen(0, &Event::Open(number), &mut outputs)?; // a client connects, at the moment 0
+//! server.happen(3, &Event::Bytes(number, piece), &mut outputs)?; // what it sent: `outputs` has the answers
+//! server.happen(9, &Event::Close, &mut outputs)?; // every client is told
 //! let line = server.line(alloc, 0)?; // what became of the messages of the first share
 //! server.end();
 //! ```

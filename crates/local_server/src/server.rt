@@ -80,9 +80,9 @@ impl Server {
         &mut self,
         moment: u64,
         event: &ServerEvent,
-        said: &mut Vec<StepOutput>,
+        outputs: &mut Vec<StepOutput>,
     ) -> Result<(), NoMemory>
-        ensures { (more : List Output) × (said.new.items ≡ said.old.items ++ more) × Happens self.old moment event.now more result self.new }
+        ensures { (more : List Output) × (outputs.new.items ≡ outputs.old.items ++ more) × Happens self.old moment event.now more result self.new }
     {
         self.clock = self.clock.max(moment);
         if !self.supply.begin() {
@@ -94,7 +94,7 @@ impl Server {
             self.clock,
             self.max_inflight,
             event,
-            said,
+            outputs,
         );
         self.supply.end();
         served
@@ -139,10 +139,10 @@ fn serve(
     now: u64,
     max_inflight: MaxInflight,
     event: &ServerEvent,
-    said: &mut Vec<StepOutput>,
+    outputs: &mut Vec<StepOutput>,
 ) -> Result<(), NoMemory>
     requires { is_open supply.old ≡ true }
-    ensures { (more : List Output) × (said.new.items ≡ said.old.items ++ more)
+    ensures { (more : List Output) × (outputs.new.items ≡ outputs.old.items ++ more)
         × Does event.now max_inflight supply.old clients.old now more result clients.new supply.new }
 {
     match event {
@@ -159,11 +159,11 @@ fn serve(
             number.get(),
             now,
             piece,
-            said,
+            outputs,
         ),
-        ServerEvent::Tick(number) => clients.tick(supply, number.get(), now, said),
-        ServerEvent::End(number) => clients.end_of_input(supply, number.get(), now, said),
-        ServerEvent::Close => close(supply, clients, now, said),
+        ServerEvent::Tick(number) => clients.tick(supply, number.get(), now, outputs),
+        ServerEvent::End(number) => clients.end_of_input(supply, number.get(), now, outputs),
+        ServerEvent::Close => close(supply, clients, now, outputs),
     }
 }
 
@@ -174,15 +174,15 @@ fn close(
     supply: &mut LocalSupply,
     clients: &mut ClientTable<LocalPlace>,
     now: u64,
-    said: &mut Vec<StepOutput>,
+    outputs: &mut Vec<StepOutput>,
 ) -> Result<(), NoMemory>
-    ensures { (more : List Output) × (said.new.items ≡ said.old.items ++ more)
+    ensures { (more : List Output) × (outputs.new.items ≡ outputs.old.items ++ more)
         × ClosesAll supply.old clients.old now more result clients.new supply.new }
 {
     supply.close();
     let mut ended = Ok(());
     'numbers: for number in 0..CLIENTS as u8 {
-        ended = ended.and(clients.closing(supply, number, now, said));
+        ended = ended.and(clients.closing(supply, number, now, outputs));
     }
     ended
 }

@@ -58,18 +58,18 @@ all_reports solo b text shows told =
 
 -- ---- the lines of what is sent
 
-lines_are : (said : List StepOutput) → flat_map client_lines said ≡ lines_for (sent_in said)
+lines_are : (outputs : List StepOutput) → flat_map client_lines outputs ≡ lines_for (sent_in outputs)
 lines_are [] = refl
-lines_are (one ∷ said) = ap (λ (l : List ℕ). client_lines one ++ l) (lines_are said) ∙ sym (flat_map-append _ one.packets (sent_in said))
+lines_are (one ∷ outputs) = ap (λ (l : List ℕ). client_lines one ++ l) (lines_are outputs) ∙ sym (flat_map-append _ one.packets (sent_in outputs))
 
 pub closed : (setup : Setup) (input output : List ℕ) → FitsBroker setup.capacity setup.groups → IsClientOutput setup input output → IsOutputFor setup input output
 closed setup input output fits is =
     let cut_up = cut input is.events is.spelled in
     let t = is.transcript in
-    let happens = subst (λ (es : List TimedEvent). HappensAll t.first es t.said t.last) cut_up.events_are t.happens in
+    let happens = subst (λ (es : List TimedEvent). HappensAll t.first es t.outputs t.last) cut_up.events_are t.happens in
     let got =
-    subst (λ (limit : ℕ). Concluded (opening setup.capacity limit setup.groups) (whole cut_up.pieces) (sent_in t.said) t.last.broker) t.new.max_inflight
-    (run setup.capacity setup.groups fits cut_up.pieces t.first t.last t.said t.new.broker t.new.clients t.new.clock cut_up.bytes happens) in
+    subst (λ (limit : ℕ). Concluded (opening setup.capacity limit setup.groups) (whole cut_up.pieces) (sent_in t.outputs) t.last.broker) t.new.max_inflight
+    (run setup.capacity setup.groups fits cut_up.pieces t.first t.last t.outputs t.new.broker t.new.clients t.new.clock cut_up.bytes happens) in
     let behind = solo_steps got.packets (opening setup.capacity setup.max_inflight setup.groups) in
     record {
       stream = whole cut_up.pieces;
@@ -80,7 +80,7 @@ closed setup input output fits is =
       reads = got.reads;
       text =
           t.whole
-          ∙ (λ i. lines_are t.said i ++ all_reports behind.solo t.last.broker t.reports got.shows t.reported i)
+          ∙ (λ i. lines_are t.outputs i ++ all_reports behind.solo t.last.broker t.reports got.shows t.reported i)
           ∙ ap (λ (l : List Packet). lines_for l ++ reports behind.solo) got.sent_are;
     }
 

@@ -53,7 +53,7 @@ use Rattle.solo_output.proofs.Streams.{all_pieces, whole}
 
 -- what was sent in a run
 abbrev pub sent_in : List StepOutput → List Packet
-sent_in said = flat_map (λ one. one.packets) said
+sent_in outputs = flat_map (λ one. one.packets) outputs
 
 -- ---- how the model begins and ends
 
@@ -124,11 +124,11 @@ one_more solo packet front after stream first later last spelled parts is rest =
 now_at_once : (client : ClientState GroupPlace) → client.conn.latest ≡ 0 → moment_of client 0 ≡ 0
 now_at_once client latest = ap (λ (n : ℕ). max n 0) latest
 
-step_at_once : (client client' : ClientState GroupPlace) (old new : Broker) (input : Input) (said : StepOutput) → client.conn.number ≡ 0 → client.conn.latest ≡ 0
-    → ClientSteps Calls slot_at old client 0 input said client' new → Steps Calls slot_at old 0 client.conn.phase 0 input said.packets said.next client'.conn.phase new
-step_at_once client client' old new input said number latest moved =
-    subst (λ (m : ℕ). Steps Calls slot_at old 0 client.conn.phase m input said.packets said.next client'.conn.phase new) (now_at_once client latest)
-    (subst (λ (n : ℕ). Steps Calls slot_at old n client.conn.phase (moment_of client 0) input said.packets said.next client'.conn.phase new) number moved.stepped)
+step_at_once : (client client' : ClientState GroupPlace) (old new : Broker) (input : Input) (output : StepOutput) → client.conn.number ≡ 0 → client.conn.latest ≡ 0
+    → ClientSteps Calls slot_at old client 0 input output client' new → Steps Calls slot_at old 0 client.conn.phase 0 input output.packets output.next client'.conn.phase new
+step_at_once client client' old new input output number latest moved =
+    subst (λ (m : ℕ). Steps Calls slot_at old 0 client.conn.phase m input output.packets output.next client'.conn.phase new) (now_at_once client latest)
+    (subst (λ (n : ℕ). Steps Calls slot_at old n client.conn.phase (moment_of client 0) input output.packets output.next client'.conn.phase new) number moved.stepped)
 
 -- and so does each event
 clock_at_once : (old new : ServerState) → old.clock ≡ 0 → new.clock ≡ max old.clock 0 → new.clock ≡ 0
@@ -167,29 +167,29 @@ module _ (capacity : ℕ) (shares : List Share) (fits : FitsBroker capacity shar
   left_bytes client client' packet more taken bytes = back_bytes taken.front (client'.unread.bytes ++ more) (subst AreBytes (in_front client client' packet more taken) bytes)
 
   -- nothing comes after the last step
-  alone : (said : StepOutput) (rest : List StepOutput) (later : List Packet) → rest ≡ [] → later ≡ [] → sent_in (said ∷ rest) ++ later ≡ said.packets
-  alone said rest later none nothing = (λ i. (said.packets ++ sent_in (none i)) ++ nothing i) ∙ append-nil (said.packets ++ []) ∙ append-nil said.packets
+  alone : (output : StepOutput) (rest : List StepOutput) (later : List Packet) → rest ≡ [] → later ≡ [] → sent_in (output ∷ rest) ++ later ≡ output.packets
+  alone output rest later none nothing = (λ i. (output.packets ++ sent_in (none i)) ++ nothing i) ∙ append-nil (output.packets ++ []) ∙ append-nil output.packets
 
-  closes_by : (input : Input) (solo : SoloState) (client client' : ClientState GroupPlace) (old new : Broker) (said : StepOutput) (more : List ℕ) (after : List Packet) (last : Broker)
+  closes_by : (input : Input) (solo : SoloState) (client client' : ClientState GroupPlace) (old new : Broker) (output : StepOutput) (more : List ℕ) (after : List Packet) (last : Broker)
       → client.conn.number ≡ 0 → client.conn.latest ≡ 0 → client.unread.fault ≡ None → AreBytes (client.unread.bytes ++ more) → Shown capacity shares solo client.conn.phase old
-      → IsInFront client.unread input client'.unread → Closes input said.next → ClientSteps Calls slot_at old client 0 input said client' new → (client'.conn.phase ≡ phases.Ended → (after ≡ []) × (last ≡ new))
-      → (after ≡ []) × Concluded solo (client.unread.bytes ++ more) said.packets last
-  closes_by (inputs.Packet packet) solo client client' old new said more after last number latest sound bytes shown taken closes moved ended =
-      let steps = step_at_once client client' old new (inputs.Packet packet) said number latest moved in
-      let step = stepped solo client.conn.phase old packet said.packets said.next client'.conn.phase new shown steps in
+      → IsInFront client.unread input client'.unread → Closes input output.next → ClientSteps Calls slot_at old client 0 input output client' new → (client'.conn.phase ≡ phases.Ended → (after ≡ []) × (last ≡ new))
+      → (after ≡ []) × Concluded solo (client.unread.bytes ++ more) output.packets last
+  closes_by (inputs.Packet packet) solo client client' old new output more after last number latest sound bytes shown taken closes moved ended =
+      let steps = step_at_once client client' old new (inputs.Packet packet) output number latest moved in
+      let step = stepped solo client.conn.phase old packet output.packets output.next client'.conn.phase new shown steps in
       ⊎_elim
-      (λ (goes : Goes (solo_step packet solo).solo client'.conn.phase said.next new). absurd (closes goes.2))
-      (λ (is_over : IsOver (solo_step packet solo).solo client'.conn.phase said.next new).
+      (λ (goes : Goes (solo_step packet solo).solo client'.conn.phase output.next new). absurd (closes goes.2))
+      (λ (is_over : IsOver (solo_step packet solo).solo client'.conn.phase output.next new).
       let out = ended is_over.0 in
       let rest = over (solo_step packet solo).solo (client'.unread.bytes ++ more) last is_over.2 (left_bytes client client' packet more taken bytes) (subst (ShowsEnd (solo_step packet solo).solo) (sym out.1) is_over.3) in (
         out.0,
-        subst (λ (l : List Packet). Concluded solo (client.unread.bytes ++ more) l last) (append-nil said.packets)
-            (one_more solo packet taken.front (client'.unread.bytes ++ more) (client.unread.bytes ++ more) said.packets [] last taken.spelled (in_front client client' packet more taken) step.sent_are rest),
+        subst (λ (l : List Packet). Concluded solo (client.unread.bytes ++ more) l last) (append-nil output.packets)
+            (one_more solo packet taken.front (client'.unread.bytes ++ more) (client.unread.bytes ++ more) output.packets [] last taken.spelled (in_front client client' packet more taken) step.sent_are rest),
       ))
       step.stands
-  closes_by (inputs.Fault fault) solo client client' old new said more after last number latest sound bytes shown stops closes moved ended =
-      let steps = step_at_once client client' old new (inputs.Fault fault) said number latest moved in
-      let part = parted solo client.conn.phase old (Some fault) (inputs.Fault fault) said.packets said.next client'.conn.phase new shown refl steps in
+  closes_by (inputs.Fault fault) solo client client' old new output more after last number latest sound bytes shown stops closes moved ended =
+      let steps = step_at_once client client' old new (inputs.Fault fault) output number latest moved in
+      let part = parted solo client.conn.phase old (Some fault) (inputs.Fault fault) output.packets output.next client'.conn.phase new shown refl steps in
       let out = ended part.over in
       let at : FaultAt fault client.unread.bytes =
       ⊎_elim
@@ -197,18 +197,18 @@ module _ (capacity : ℕ) (shares : List Share) (fits : FitsBroker capacity shar
       (λ (here : (client.unread.fault ≡ None) × FaultAt fault client.unread.bytes). here.1)
       stops.1 in
       let reads = faulty_stays client.unread.bytes more [] client.unread.bytes fault (front_bytes client.unread.bytes more bytes) (refl, at) in
-      (out.0, last_one solo (client.unread.bytes ++ more) (Some fault) said.packets client'.conn.phase last reads (subst (Parted (Some fault) solo said.packets client'.conn.phase) (sym out.1) part))
-  closes_by inputs.Tick solo client client' old new said more after last number latest sound bytes shown front closes moved ended = absurd front
-  closes_by inputs.EndOfInput solo client client' old new said more after last number latest sound bytes shown front closes moved ended = absurd front
-  closes_by inputs.Closing solo client client' old new said more after last number latest sound bytes shown front closes moved ended = absurd front
+      (out.0, last_one solo (client.unread.bytes ++ more) (Some fault) output.packets client'.conn.phase last reads (subst (Parted (Some fault) solo output.packets client'.conn.phase) (sym out.1) part))
+  closes_by inputs.Tick solo client client' old new output more after last number latest sound bytes shown front closes moved ended = absurd front
+  closes_by inputs.EndOfInput solo client client' old new output more after last number latest sound bytes shown front closes moved ended = absurd front
+  closes_by inputs.Closing solo client client' old new output more after last number latest sound bytes shown front closes moved ended = absurd front
 
-  pub reads : (said : List StepOutput) (solo : SoloState) (client client' : ClientState GroupPlace) (old new : Broker) (more : List ℕ) (later : List Packet) (last : Broker)
+  pub reads : (outputs : List StepOutput) (solo : SoloState) (client client' : ClientState GroupPlace) (old new : Broker) (more : List ℕ) (later : List Packet) (last : Broker)
       → client.conn.number ≡ 0 → client.conn.latest ≡ 0 → client.unread.fault ≡ None → AreBytes (client.unread.bytes ++ more) → Shown capacity shares solo client.conn.phase old
-      → Reads Calls slot_at old client 0 said client' new
+      → Reads Calls slot_at old client 0 outputs client' new
       → ((s : SoloState) → client'.conn.number ≡ 0 → client'.conn.latest ≡ 0 → client'.unread.fault ≡ None → IsOpen client'.unread.bytes → AreBytes (client'.unread.bytes ++ more) → Shown capacity shares s client'.conn.phase new
       → Concluded s (client'.unread.bytes ++ more) later last)
       → (client'.conn.phase ≡ phases.Ended → (later ≡ []) × (last ≡ new))
-      → Concluded solo (client.unread.bytes ++ more) (sent_in said ++ later) last
+      → Concluded solo (client.unread.bytes ++ more) (sent_in outputs ++ later) last
   reads [] solo client client' old new more later last number latest sound bytes shown (inl waits, same, still) goes ended = absurd (not_waiting solo client.conn.phase old shown waits)
   reads [] solo client client' old new more later last number latest sound bytes shown (inr (none, open_), same, still) goes ended =
       subst (λ (c : ClientState GroupPlace). Concluded solo (c.unread.bytes ++ more) later last) same
@@ -216,23 +216,23 @@ module _ (capacity : ℕ) (shares : List Share) (fits : FitsBroker capacity shar
       (ap (λ (c : ClientState GroupPlace). c.unread.fault) same ∙ sound)
       (subst (λ (c : ClientState GroupPlace). IsOpen c.unread.bytes) (sym same) open_) (subst (λ (c : ClientState GroupPlace). AreBytes (c.unread.bytes ++ more)) (sym same) bytes)
       (subst (λ (c : ClientState GroupPlace). Shown capacity shares solo c.conn.phase new) (sym same) (subst (Shown capacity shares solo client.conn.phase) (sym still) shown)))
-  reads (said ∷ rest) solo client client' old new more later last number latest sound bytes shown (inl (does, none)) goes ended =
-      let got = closes_by does.input solo client client' old new said more later last number latest sound bytes shown does.front does.closes does.moved ended in
-      subst (λ (l : List Packet). Concluded solo (client.unread.bytes ++ more) l last) (sym (alone said rest later none got.0)) got.1
-  reads (said ∷ rest) solo client client' old new more later last number latest sound bytes shown (inr (between, mid, does, behind)) goes ended =
+  reads (outputs ∷ rest) solo client client' old new more later last number latest sound bytes shown (inl (does, none)) goes ended =
+      let got = closes_by does.input solo client client' old new outputs more later last number latest sound bytes shown does.front does.closes does.moved ended in
+      subst (λ (l : List Packet). Concluded solo (client.unread.bytes ++ more) l last) (sym (alone outputs rest later none got.0)) got.1
+  reads (outputs ∷ rest) solo client client' old new more later last number latest sound bytes shown (inr (between, mid, does, behind)) goes ended =
       let packet = does.packet in
-      let steps = step_at_once client between old mid (inputs.Packet packet) said number latest does.moved in
-      let step = stepped solo client.conn.phase old packet said.packets said.next between.conn.phase mid shown steps in
+      let steps = step_at_once client between old mid (inputs.Packet packet) outputs number latest does.moved in
+      let step = stepped solo client.conn.phase old packet outputs.packets outputs.next between.conn.phase mid shown steps in
       let left = does.taken.front in
       ⊎_elim
-      (λ (goes_on : Goes (solo_step packet solo).solo between.conn.phase said.next mid).
+      (λ (goes_on : Goes (solo_step packet solo).solo between.conn.phase outputs.next mid).
       let connected = goes_on.0 in
       let rest_of =
       reads rest (solo_step packet solo).solo between client' mid new more later last (does.moved.same ∙ number) (does.moved.latest ∙ now_at_once client latest) does.taken.goes_on (left_bytes client between packet more does.taken bytes)
       (inr (connected, goes_on.1, goes_on.3)) behind goes ended in
-      subst (λ (l : List Packet). Concluded solo (client.unread.bytes ++ more) l last) (sym (append_assoc said.packets (sent_in rest) later))
-      (one_more solo packet left (between.unread.bytes ++ more) (client.unread.bytes ++ more) said.packets (sent_in rest ++ later) last does.taken.spelled (in_front client between packet more does.taken) step.sent_are rest_of))
-      (λ (is_over : IsOver (solo_step packet solo).solo between.conn.phase said.next mid). absurd (not_go said.next does.goes is_over.1))
+      subst (λ (l : List Packet). Concluded solo (client.unread.bytes ++ more) l last) (sym (append_assoc outputs.packets (sent_in rest) later))
+      (one_more solo packet left (between.unread.bytes ++ more) (client.unread.bytes ++ more) outputs.packets (sent_in rest ++ later) last does.taken.spelled (in_front client between packet more does.taken) step.sent_are rest_of))
+      (λ (is_over : IsOver (solo_step packet solo).solo between.conn.phase outputs.next mid). absurd (not_go outputs.next does.goes is_over.1))
       step.stands
 
 -- ---- a server on which nothing happens any more
@@ -251,25 +251,25 @@ in_cell old new Becomes cell there does =
 
 -- what nothing makes of a server
 abbrev Stays : ServerState → List StepOutput → ServerState → Type 0
-Stays old said new = (said ≡ []) × HasCell None new × (new.broker ≡ old.broker)
+Stays old outputs new = (outputs ≡ []) × HasCell None new × (new.broker ≡ old.broker)
 
-idle_piece : (b : Bool) (piece : List ℕ) (old new : ServerState) (said : List StepOutput) → HasCell None old → DoesIf b (Bytes 0 piece) old.max_inflight old.broker old.clients new.clock said (Ok tt) new.clients new.broker → Stays old said new
-idle_piece true piece old new said cell does =
+idle_piece : (b : Bool) (piece : List ℕ) (old new : ServerState) (outputs : List StepOutput) → HasCell None old → DoesIf b (Bytes 0 piece) old.max_inflight old.broker old.clients new.clock outputs (Ok tt) new.clients new.broker → Stays old outputs new
+idle_piece true piece old new outputs cell does =
     let got = in_cell old.clients new.clients _ None cell does in
     (got.1.0, got.2 ∙ ap (λ (c : Option (ClientState GroupPlace)). Some c) got.1.1, got.1.2)
-idle_piece false piece old new said cell does = (does.0, ap (λ (l : Clients). slice_get l 0) does.2 ∙ cell, does.3)
+idle_piece false piece old new outputs cell does = (does.0, ap (λ (l : Clients). slice_get l 0) does.2 ∙ cell, does.3)
 
-idle_end : (b : Bool) (old new : ServerState) (said : List StepOutput) → HasCell None old → DoesIf b (End 0) old.max_inflight old.broker old.clients new.clock said (Ok tt) new.clients new.broker → Stays old said new
-idle_end true old new said cell does =
+idle_end : (b : Bool) (old new : ServerState) (outputs : List StepOutput) → HasCell None old → DoesIf b (End 0) old.max_inflight old.broker old.clients new.clock outputs (Ok tt) new.clients new.broker → Stays old outputs new
+idle_end true old new outputs cell does =
     let got = in_cell old.clients new.clients _ None cell does in
     (got.1.0, got.2 ∙ ap (λ (c : Option (ClientState GroupPlace)). Some c) got.1.1, got.1.2)
-idle_end false old new said cell does = (does.0, ap (λ (l : Clients). slice_get l 0) does.2 ∙ cell, does.3)
+idle_end false old new outputs cell does = (does.0, ap (λ (l : Clients). slice_get l 0) does.2 ∙ cell, does.3)
 
-idle : (pieces : List (List ℕ)) (old last : ServerState) (said : List StepOutput) → HasCell None old → HappensAll old (all_pieces pieces) said last → (sent_in said ≡ []) × (last.broker ≡ old.broker)
-idle [] old last said cell (mid, now, later, happens, (none, same), all) =
+idle : (pieces : List (List ℕ)) (old last : ServerState) (outputs : List StepOutput) → HasCell None old → HappensAll old (all_pieces pieces) outputs last → (sent_in outputs ≡ []) × (last.broker ≡ old.broker)
+idle [] old last outputs cell (mid, now, later, happens, (none, same), all) =
     let one = idle_end (is_open old.broker) old mid now cell happens.does in
     (ap sent_in (all ∙ (λ i. one.0 i ++ none i)), ap (λ (s : ServerState). s.broker) same ∙ one.2)
-idle (piece ∷ pieces) old last said cell (mid, now, later, happens, others, all) =
+idle (piece ∷ pieces) old last outputs cell (mid, now, later, happens, others, all) =
     let one = idle_piece (is_open old.broker) piece old mid now cell happens.does in
     let rest = idle pieces mid last later one.1 others in
     (ap sent_in (all ∙ ap (λ (l : List StepOutput). l ++ later) one.0) ∙ rest.0, rest.1 ∙ one.2)
@@ -300,11 +300,11 @@ module _ (capacity : ℕ) (shares : List Share) (fits : FitsBroker capacity shar
   fed_is : (client : ClientState GroupPlace) (piece : List ℕ) → client.unread.fault ≡ None → (fed client piece).unread ≡ record { bytes = client.unread.bytes ++ piece; fault = None }
   fed_is client piece sound = ap (λ (f : Option StreamFault). longer f client.unread.bytes piece) sound
 
-  walk : (pieces : List (List ℕ)) (solo : SoloState) (client : ClientState GroupPlace) (old last : ServerState) (said : List StepOutput) → HasCell (Some client) old → old.clock ≡ 0 → client.conn.number ≡ 0 → client.conn.latest ≡ 0
+  walk : (pieces : List (List ℕ)) (solo : SoloState) (client : ClientState GroupPlace) (old last : ServerState) (outputs : List StepOutput) → HasCell (Some client) old → old.clock ≡ 0 → client.conn.number ≡ 0 → client.conn.latest ≡ 0
       → client.unread.fault ≡ None → IsOpen client.unread.bytes
-      → AreBytes (client.unread.bytes ++ whole pieces) → Shown capacity shares solo client.conn.phase old.broker → HappensAll old (all_pieces pieces) said last
-      → Concluded solo (client.unread.bytes ++ whole pieces) (sent_in said) last.broker
-  walk [] solo client old last said cell clock number latest sound open_ bytes shown (mid, now, later, happens, (none, same), all) =
+      → AreBytes (client.unread.bytes ++ whole pieces) → Shown capacity shares solo client.conn.phase old.broker → HappensAll old (all_pieces pieces) outputs last
+      → Concluded solo (client.unread.bytes ++ whole pieces) (sent_in outputs) last.broker
+  walk [] solo client old last outputs cell clock number latest sound open_ bytes shown (mid, now, later, happens, (none, same), all) =
       let clock' = clock_at_once old mid clock happens.clock in
       let does =
       subst (λ (n : ℕ). DoesIf true (End 0) old.max_inflight old.broker old.clients n now (Ok tt) mid.clients mid.broker) clock'
@@ -314,12 +314,12 @@ module _ (capacity : ℕ) (shares : List Share) (fits : FitsBroker capacity shar
       let moved = got.1.2 in
       let steps = step_at_once client got.0 old.broker mid.broker inputs.EndOfInput one number latest moved in
       let part = parted capacity shares fits solo client.conn.phase old.broker None inputs.EndOfInput one.packets one.next got.0.conn.phase mid.broker shown tt steps in
-      let sent : sent_in said ≡ one.packets = ap sent_in (all ∙ (λ i. got.1.1 i ++ none i)) ∙ append-nil one.packets in
+      let sent : sent_in outputs ≡ one.packets = ap sent_in (all ∙ (λ i. got.1.1 i ++ none i)) ∙ append-nil one.packets in
       let ended = last_one solo client.unread.bytes None one.packets got.0.conn.phase mid.broker (refl, open_) part in
-      subst (λ (l : List ℕ). Concluded solo l (sent_in said) last.broker) (sym (append-nil client.unread.bytes))
+      subst (λ (l : List ℕ). Concluded solo l (sent_in outputs) last.broker) (sym (append-nil client.unread.bytes))
       (subst (λ (l : List Packet). Concluded solo client.unread.bytes l last.broker) (sym sent)
       (subst (λ (s : ServerState). Concluded solo client.unread.bytes one.packets s.broker) (sym same) ended))
-  walk (piece ∷ pieces) solo client old last said cell clock number latest sound open_ bytes shown (mid, now, later, happens, others, all) =
+  walk (piece ∷ pieces) solo client old last outputs cell clock number latest sound open_ bytes shown (mid, now, later, happens, others, all) =
       let clock' = clock_at_once old mid clock happens.clock in
       let does =
       subst (λ (n : ℕ). DoesIf true (Bytes 0 piece) old.max_inflight old.broker old.clients n now (Ok tt) mid.clients mid.broker) clock'
@@ -337,8 +337,8 @@ module _ (capacity : ℕ) (shares : List Share) (fits : FitsBroker capacity shar
       (λ s number' latest' sound' open' bytes' shown'.
       walk pieces s client' mid last later (there ∙ ap (λ (c : Option (ClientState GroupPlace)). Some c) (kept_shown s client' mid.broker shown')) clock' number' latest' sound' open' bytes' shown' others)
       (λ ended. idle pieces mid last later (there ∙ ap (λ (c : Option (ClientState GroupPlace)). Some c) (kept_ended client' ended)) others) in
-      let sent : sent_in said ≡ sent_in now ++ sent_in later = ap sent_in all ∙ flat_map-append (λ (one : StepOutput). one.packets) now later in
-      subst (λ (l : List ℕ). Concluded solo l (sent_in said) last.broker) longer_bytes
+      let sent : sent_in outputs ≡ sent_in now ++ sent_in later = ap sent_in all ∙ flat_map-append (λ (one : StepOutput). one.packets) now later in
+      subst (λ (l : List ℕ). Concluded solo l (sent_in outputs) last.broker) longer_bytes
       (subst (λ (l : List Packet). Concluded solo ((fed client piece).unread.bytes ++ whole pieces) l last.broker) (sym sent) got)
 
   abbrev no_client : Option (ClientState GroupPlace)
@@ -353,9 +353,9 @@ module _ (capacity : ℕ) (shares : List Share) (fits : FitsBroker capacity shar
   no_byte = inl refl
 
   -- from the opening of the connection on
-  pub run : (pieces : List (List ℕ)) (first last : ServerState) (said : List StepOutput) → IsNewBroker capacity shares first.broker → first.clients ≡ replicate 64 None → first.clock ≡ 0 → AreBytes (whole pieces)
-      → HappensAll first (at_once (Open 0) ∷ all_pieces pieces) said last → Concluded (opening capacity first.max_inflight shares) (whole pieces) (sent_in said) last.broker
-  run pieces first last said is_new none clock bytes (mid, now, later, happens, others, all) =
+  pub run : (pieces : List (List ℕ)) (first last : ServerState) (outputs : List StepOutput) → IsNewBroker capacity shares first.broker → first.clients ≡ replicate 64 None → first.clock ≡ 0 → AreBytes (whole pieces)
+      → HappensAll first (at_once (Open 0) ∷ all_pieces pieces) outputs last → Concluded (opening capacity first.max_inflight shares) (whole pieces) (sent_in outputs) last.broker
+  run pieces first last outputs is_new none clock bytes (mid, now, later, happens, others, all) =
       let is_open_now = open_is (opening capacity first.max_inflight shares) [] first.broker (opens capacity first.max_inflight shares first.broker fits is_new) in
       let does = subst (λ (b : Bool). DoesIf b (Open 0) first.max_inflight first.broker first.clients mid.clock now (Ok tt) mid.clients mid.broker) is_open_now happens.does in
       let cell : slice_get first.clients 0 ≡ Some None = ap (λ (l : Clients). slice_get l 0) none ∙ first_none 64 (omega arith) in
@@ -364,6 +364,6 @@ module _ (capacity : ℕ) (shares : List Share) (fits : FitsBroker capacity shar
       let opened : Opening = record { at = mid.clock; limits = inflight_alone first.max_inflight } in
       let client : ClientState GroupPlace = arrived (record { number = 0; latest = mid.clock; phase = phases.Unconnected opened }) in
       let there : slice_get mid.clients 0 ≡ Some (Some client) = got.2 ∙ ap (λ (c : Option (ClientState GroupPlace)). Some c) got.1 in
-      let sent : sent_in said ≡ sent_in later = ap sent_in (all ∙ ap (λ (l : List StepOutput). l ++ later) does.2) in
+      let sent : sent_in outputs ≡ sent_in later = ap sent_in (all ∙ ap (λ (l : List StepOutput). l ++ later) does.2) in
       subst (λ (l : List Packet). Concluded (opening capacity first.max_inflight shares) (whole pieces) l last.broker) (sym sent)
       (walk pieces (opening capacity first.max_inflight shares) client mid last later there clock' refl clock' refl no_byte bytes (inl (opened, refl, refl, subst (IsNewBroker capacity shares) (sym does.1) is_new, refl)) others)

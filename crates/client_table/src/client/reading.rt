@@ -49,10 +49,10 @@ impl<P: HoldingPlace> Client<P> {
         supply: &mut S,
         now: u64,
         piece: &[u8],
-        said: &mut Vec<StepOutput>,
+        outputs: &mut Vec<StepOutput>,
     ) -> Result<(), NoMemory>
         requires visiting { S.visiting supply.old ≡ true }
-        ensures received { (more : List Output) × (said.new.items ≡ said.old.items ++ more)
+        ensures received { (more : List Output) × (outputs.new.items ≡ outputs.old.items ++ more)
             × MatchResult result
             (λ _. Reads S.call P.slot_of supply.old (fed self.old piece.now) now more self.new supply.new)
             (λ _. (IsGivenUp S.call P.slot_of supply.old self.old now inputs.EndOfInput self.new supply.new × (more ≡ []))
@@ -61,8 +61,8 @@ impl<P: HoldingPlace> Client<P> {
     {
         self.is_drained = false;
         match self.stream.feed(piece) {
-            Ok(()) => self.read(supply, now, said),
-            Err(Fault::Stream(_)) => self.read(supply, now, said),
+            Ok(()) => self.read(supply, now, outputs),
+            Err(Fault::Stream(_)) => self.read(supply, now, outputs),
             Err(Fault::Memory) => Err(self.give_up(supply, now, Input::EndOfInput)),
         }
     }
@@ -77,17 +77,17 @@ impl<P: HoldingPlace> Client<P> {
         &mut self,
         supply: &mut S,
         now: u64,
-        said: &mut Vec<StepOutput>,
+        outputs: &mut Vec<StepOutput>,
     ) -> Result<(), NoMemory>
         requires visiting { S.visiting supply.old ≡ true }
-        ensures read { (more : List Output) × (said.new.items ≡ said.old.items ++ more)
+        ensures read { (more : List Output) × (outputs.new.items ≡ outputs.old.items ++ more)
             × MatchResult result
             (λ _. Reads S.call P.slot_of supply.old self.old now more self.new supply.new)
             (λ _. FailsToRead S.call P.slot_of supply.old self.old now more self.new supply.new) }
         ensures visiting { S.visiting supply.new ≡ S.visiting supply.old }
     {
         'packets: loop {
-            match self.read_one(supply, now, said) {
+            match self.read_one(supply, now, outputs) {
                 Ok(Reading::GoesOn) => {}
                 Ok(Reading::Nothing) => return Ok(()),
                 Ok(Reading::Closed) => return Ok(()),
@@ -102,12 +102,12 @@ impl<P: HoldingPlace> Client<P> {
         &mut self,
         supply: &mut S,
         now: u64,
-        said: &mut Vec<StepOutput>,
+        outputs: &mut Vec<StepOutput>,
     ) -> Result<Reading, NoMemory>
         requires visiting { S.visiting supply.old ≡ true }
         ensures read { MatchResult result
-            (λ reading. ReadsAs S.call P.slot_of reading supply.old self.old now said.old.items said.new.items self.new supply.new)
-            (λ _. (said.new.items ≡ said.old.items) × FailsToReadOne S.call P.slot_of supply.old self.old now self.new supply.new) }
+            (λ reading. ReadsAs S.call P.slot_of reading supply.old self.old now outputs.old.items outputs.new.items self.new supply.new)
+            (λ _. (outputs.new.items ≡ outputs.old.items) × FailsToReadOne S.call P.slot_of supply.old self.old now self.new supply.new) }
         ensures visiting { S.visiting supply.new ≡ S.visiting supply.old }
     {
         if self.is_drained {
@@ -116,7 +116,7 @@ impl<P: HoldingPlace> Client<P> {
         if !self.conn.wants_input() {
             return Ok(Reading::Nothing);
         }
-        if said.reserve(1).is_err() {
+        if outputs.reserve(1).is_err() {
             return Err(self.give_up(supply, now, Input::EndOfInput));
         }
         match self.stream.next() {
@@ -124,11 +124,16 @@ impl<P: HoldingPlace> Client<P> {
                 self.is_drained = true;
                 Ok(Reading::Nothing)
             }
-            Ok(Some(packet)) => match self.step(supply, now, Input::Packet(packet), said) {
+            Ok(Some(packet)) => match self.step(supply, now, Input::Packet(packet), outputs) {
                 Ok(next) => Ok(Reading::behind(next)),
                 Err(NoMemory) => Err(NoMemory),
             },
-            Err(Fault::Stream(fault)) => match self.step(supply, now, Input::Fault(fault), said) {
+            Err(Fault::Stream(fault)) => match self.step(
+                supply,
+                now,
+                Input::Fault(fault),
+                outputs,
+            ) {
                 Ok(_) => Ok(Reading::Closed),
                 Err(NoMemory) => Err(NoMemory),
             },
@@ -142,22 +147,22 @@ impl<P: HoldingPlace> Client<P> {
         supply: &mut S,
         now: u64,
         input: Input,
-        said: &mut Vec<StepOutput>,
+        outputs: &mut Vec<StepOutput>,
     ) -> Result<Then, NoMemory>
         requires wanted { IsWanted self.old.conn.phase input }
-        requires room { vec_len said.old < vec_capacity said.old }
+        requires room { vec_len outputs.old < vec_capacity outputs.old }
         requires visiting { NeedsVisit input → S.visiting supply.old ≡ true }
         ensures stepped { MatchResult result
-            (λ next. (output : Output) × (output.next ≡ next) × (said.new.items ≡ said.old.items ++ (output ∷ []))
+            (λ next. (output : Output) × (output.next ≡ next) × (outputs.new.items ≡ outputs.old.items ++ (output ∷ []))
             × ClientSteps S.call P.slot_of supply.old self.old now input output self.new supply.new)
-            (λ _. (said.new ≡ said.old) × ClientFailsToStep S.call P.slot_of supply.old self.old now input self.new supply.new) }
+            (λ _. (outputs.new ≡ outputs.old) × ClientFailsToStep S.call P.slot_of supply.old self.old now input self.new supply.new) }
         ensures unread { self.new.unread ≡ self.old.unread }
         ensures visiting { S.visiting supply.new ≡ S.visiting supply.old }
     {
         match self.conn.step(supply, now, input, &mut self.packets) {
             Ok(next) => {
                 let packets = take_all(self.alloc, &mut self.packets);
-                said.push_reserved(StepOutput::new(self.number, packets, next));
+                outputs.push_reserved(StepOutput::new(self.number, packets, next));
                 Ok(next)
             }
             Err(NoMemory) => Err(NoMemory),
@@ -175,20 +180,20 @@ impl<P: HoldingPlace> Client<P> {
         &mut self,
         supply: &mut S,
         now: u64,
-        said: &mut Vec<StepOutput>,
+        outputs: &mut Vec<StepOutput>,
     ) -> Result<(), NoMemory>
         requires visiting { S.visiting supply.old ≡ true }
-        ensures ticked { (more : List Output) × (said.new.items ≡ said.old.items ++ more)
+        ensures ticked { (more : List Output) × (outputs.new.items ≡ outputs.old.items ++ more)
             × MatchResult result
             (λ _. Ticks S.call P.slot_of supply.old self.old now more self.new supply.new)
             (λ _. FailsToTick S.call P.slot_of supply.old self.old now more self.new supply.new) }
         ensures visiting { S.visiting supply.new ≡ S.visiting supply.old }
     {
-        if said.reserve(1).is_err() {
+        if outputs.reserve(1).is_err() {
             return Err(self.give_up(supply, now, Input::EndOfInput));
         }
-        match self.step(supply, now, Input::Tick, said) {
-            Ok(Then::Go) => self.read(supply, now, said),
+        match self.step(supply, now, Input::Tick, outputs) {
+            Ok(Then::Go) => self.read(supply, now, outputs),
             Ok(Then::Close) => Ok(()),
             Ok(Then::Kicked) => Ok(()),
             Err(NoMemory) => Err(NoMemory),
@@ -204,12 +209,12 @@ impl<P: HoldingPlace> Client<P> {
         &mut self,
         supply: &mut S,
         now: u64,
-        said: &mut Vec<StepOutput>,
+        outputs: &mut Vec<StepOutput>,
     ) -> Result<(), NoMemory>
-        ensures ended { Leaves S.call P.slot_of supply.old self.old now inputs.EndOfInput said.old.items result said.new.items self.new supply.new }
+        ensures ended { Leaves S.call P.slot_of supply.old self.old now inputs.EndOfInput outputs.old.items result outputs.new.items self.new supply.new }
         ensures visiting { S.visiting supply.new ≡ S.visiting supply.old }
     {
-        self.leave(supply, now, Input::EndOfInput, said)
+        self.leave(supply, now, Input::EndOfInput, outputs)
     }
 
     /// The broker closes, at this moment in milliseconds.
@@ -221,12 +226,12 @@ impl<P: HoldingPlace> Client<P> {
         &mut self,
         supply: &mut S,
         now: u64,
-        said: &mut Vec<StepOutput>,
+        outputs: &mut Vec<StepOutput>,
     ) -> Result<(), NoMemory>
-        ensures closed { Leaves S.call P.slot_of supply.old self.old now inputs.Closing said.old.items result said.new.items self.new supply.new }
+        ensures closed { Leaves S.call P.slot_of supply.old self.old now inputs.Closing outputs.old.items result outputs.new.items self.new supply.new }
         ensures visiting { S.visiting supply.new ≡ S.visiting supply.old }
     {
-        self.leave(supply, now, Input::Closing, said)
+        self.leave(supply, now, Input::Closing, outputs)
     }
 
     /// Lets go of a client: its connection ends as where the broker closes, and nothing is written of it.
@@ -245,17 +250,17 @@ impl<P: HoldingPlace> Client<P> {
         supply: &mut S,
         now: u64,
         input: Input,
-        said: &mut Vec<StepOutput>,
+        outputs: &mut Vec<StepOutput>,
     ) -> Result<(), NoMemory>
         requires wanted { IsNoPacket input }
         requires quiet { ¬ NeedsVisit input }
-        ensures left { Leaves S.call P.slot_of supply.old self.old now input said.old.items result said.new.items self.new supply.new }
+        ensures left { Leaves S.call P.slot_of supply.old self.old now input outputs.old.items result outputs.new.items self.new supply.new }
         ensures visiting { S.visiting supply.new ≡ S.visiting supply.old }
     {
-        if said.reserve(1).is_err() {
+        if outputs.reserve(1).is_err() {
             return Err(self.give_up(supply, now, input));
         }
-        match self.step(supply, now, input, said) {
+        match self.step(supply, now, input, outputs) {
             Ok(_) => Ok(()),
             Err(NoMemory) => Err(NoMemory),
         }

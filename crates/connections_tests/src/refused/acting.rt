@@ -18,7 +18,7 @@ const CLIENTS: u8 = 3;
 pub(crate) struct SharedBroker {
     supply: Refusing,
     clients: ClientTable<LocalPlace>,
-    said: Vec<StepOutput>,
+    outputs: Vec<StepOutput>,
     // The moment of what happens next, in milliseconds.
     now: u64,
     alloc: Global,
@@ -34,7 +34,7 @@ impl SharedBroker {
         SharedBroker {
             supply: Refusing::open(alloc, Routes::new(alloc), refused).expect(rt, "memory"),
             clients,
-            said: Vec::new(alloc),
+            outputs: Vec::new(alloc),
             now: 0,
             alloc,
         }
@@ -98,13 +98,17 @@ impl SharedBroker {
     fn receive(&mut self, number: u8, piece: &[u8]) -> Result<(), NoMemory>
         requires { number < 64 }
     {
-        self.said.clear();
+        self.outputs.clear();
         if !self.supply.begin() {
             return Ok(());
         }
-        let received = self
-            .clients
-            .receive(&mut self.supply, number, self.now, piece, &mut self.said);
+        let received = self.clients.receive(
+            &mut self.supply,
+            number,
+            self.now,
+            piece,
+            &mut self.outputs,
+        );
         self.supply.end();
         received
     }
@@ -113,13 +117,13 @@ impl SharedBroker {
     fn advance(&mut self, number: u8) -> Result<(), NoMemory>
         requires { number < 64 }
     {
-        self.said.clear();
+        self.outputs.clear();
         if !self.supply.begin() {
             return Ok(());
         }
         let ticked = self
             .clients
-            .tick(&mut self.supply, number, self.now, &mut self.said);
+            .tick(&mut self.supply, number, self.now, &mut self.outputs);
         self.supply.end();
         ticked
     }
@@ -127,7 +131,7 @@ impl SharedBroker {
     /// What was said in the last event is written as these bytes, one part after the other.
     fn compare(&self, rt: &impl Abort, written: &[&[u8]]) {
         let mut bytes = Vec::new(self.alloc);
-        for words in &self.said {
+        for words in &self.outputs {
             for packet in words.packets() {
                 encode_into(&mut bytes, packet).expect(rt, "memory");
             }
@@ -150,7 +154,7 @@ impl SharedBroker {
         let SharedBroker {
             mut supply,
             clients,
-            said: _,
+            outputs: _,
             now,
             alloc: _,
         } = self;

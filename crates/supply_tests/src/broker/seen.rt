@@ -29,8 +29,12 @@ impl Seen {
     }
 
     /// Reads what was said: PUBACKs go to the publisher alone, PUBLISHes to the member, whose identifiers are kept.
-    pub(crate) fn read(&mut self, said: &[StepOutput], identifiers: &mut Vec<u16>) -> Option<()> {
-        for step in said {
+    pub(crate) fn read(
+        &mut self,
+        outputs: &[StepOutput],
+        identifiers: &mut Vec<u16>,
+    ) -> Option<()> {
+        for step in outputs {
             self.read_packets(step.packets(), identifiers)?;
         }
         Some(())

@@ -14,14 +14,14 @@ pub(crate) fn receive<P: HoldingPlace, S: Supply<P>>(
     table: &mut ClientTable<P>,
     connection: u8,
     piece: &[u8],
-    said: &mut Vec<StepOutput>,
+    outputs: &mut Vec<StepOutput>,
 ) -> Result<(), NoMemory>
     requires { connection < 64 }
 {
     if !supply.begin() {
         return Ok(());
     }
-    let received = table.receive(supply, connection, 0, piece, said);
+    let received = table.receive(supply, connection, 0, piece, outputs);
     supply.end();
     received
 }
@@ -35,14 +35,14 @@ pub(crate) fn tick<P: HoldingPlace, S: Supply<P>>(
     supply: &mut S,
     table: &mut ClientTable<P>,
     connection: u8,
-    said: &mut Vec<StepOutput>,
+    outputs: &mut Vec<StepOutput>,
 ) -> Result<(), NoMemory>
     requires { connection < 64 }
 {
     if !supply.begin() {
         return Ok(());
     }
-    let ticked = table.tick(supply, connection, 0, said);
+    let ticked = table.tick(supply, connection, 0, outputs);
     supply.end();
     ticked
 }

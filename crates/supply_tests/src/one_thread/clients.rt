@@ -32,15 +32,15 @@ pub(crate) const WRITTEN: &[u8] =
 fn says<P: HoldingPlace, S: Supply<P>>(
     supply: &mut S,
     clients: &mut ClientTable<P>,
-    said: &mut Vec<StepOutput>,
+    outputs: &mut Vec<StepOutput>,
     number: u8,
     piece: &[u8],
 ) -> Result<(), NoMemory>
     requires { number < 64 }
 {
     if supply.begin() {
-        clients.receive(supply, number, 0, piece, said)?;
-        clients.tick(supply, 0, 0, said)?;
+        clients.receive(supply, number, 0, piece, outputs)?;
+        clients.tick(supply, 0, 0, outputs)?;
         supply.end();
     }
     Ok(())
@@ -50,20 +50,20 @@ fn says<P: HoldingPlace, S: Supply<P>>(
 fn work<P: HoldingPlace, S: Supply<P>>(
     supply: &mut S,
     clients: &mut ClientTable<P>,
-    said: &mut Vec<StepOutput>,
+    outputs: &mut Vec<StepOutput>,
 ) -> Result<(), NoMemory> {
-    says(supply, clients, said, 0, MEMBER)?;
-    says(supply, clients, said, 0, SUBSCRIBE)?;
-    says(supply, clients, said, 1, PUBLISHER)?;
-    says(supply, clients, said, 1, JOB)?;
-    says(supply, clients, said, 0, ACKNOWLEDGED)?;
-    says(supply, clients, said, 0, PING)
+    says(supply, clients, outputs, 0, MEMBER)?;
+    says(supply, clients, outputs, 0, SUBSCRIBE)?;
+    says(supply, clients, outputs, 1, PUBLISHER)?;
+    says(supply, clients, outputs, 1, JOB)?;
+    says(supply, clients, outputs, 0, ACKNOWLEDGED)?;
+    says(supply, clients, outputs, 0, PING)
 }
 
 /// What was said, as bytes.
-fn bytes_of(alloc: Global, said: &[StepOutput]) -> Option<Vec<u8>> {
+fn bytes_of(alloc: Global, outputs: &[StepOutput]) -> Option<Vec<u8>> {
     let mut bytes = Vec::new(alloc);
-    for words in said {
+    for words in outputs {
         for packet in words.packets() {
             encode_into(&mut bytes, packet).ok()?;
         }
@@ -79,9 +79,9 @@ pub(crate) fn two_clients<P: HoldingPlace, S: Supply<P>>(
     let mut clients = ClientTable::new(alloc).ok()?;
     clients.open(0, Opening::plain(0));
     clients.open(1, Opening::plain(0));
-    let mut said = Vec::new(alloc);
-    let worked = work(supply, &mut clients, &mut said);
+    let mut outputs = Vec::new(alloc);
+    let worked = work(supply, &mut clients, &mut outputs);
     clients.abandon(supply, 0);
     worked.ok()?;
-    bytes_of(alloc, &said)
+    bytes_of(alloc, &outputs)
 }

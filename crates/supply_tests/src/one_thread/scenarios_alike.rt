@@ -24,7 +24,7 @@ use std::test::Fail;
 fn serve<P: HoldingPlace, S: Supply<P>>(
     supply: &mut S,
     clients: &mut ClientTable<P>,
-    said: &mut Vec<StepOutput>,
+    outputs: &mut Vec<StepOutput>,
     now: u64,
     event: &ScenarioEvent,
 ) -> Result<(), NoMemory>
@@ -39,9 +39,9 @@ fn serve<P: HoldingPlace, S: Supply<P>>(
             clients.open(number, Opening::plain(now));
             Ok(())
         }
-        What::Bytes(piece) => clients.receive(supply, number, now, piece, said),
-        What::Tick => clients.tick(supply, number, now, said),
-        What::End => clients.end_of_input(supply, number, now, said),
+        What::Bytes(piece) => clients.receive(supply, number, now, piece, outputs),
+        What::Tick => clients.tick(supply, number, now, outputs),
+        What::End => clients.end_of_input(supply, number, now, outputs),
     }
 }
 
@@ -49,14 +49,14 @@ fn serve<P: HoldingPlace, S: Supply<P>>(
 fn visit<P: HoldingPlace, S: Supply<P>>(
     supply: &mut S,
     clients: &mut ClientTable<P>,
-    said: &mut Vec<StepOutput>,
+    outputs: &mut Vec<StepOutput>,
     now: u64,
     event: &ScenarioEvent,
 ) -> Result<(), NoMemory> {
     if !supply.begin() {
         return Ok(());
     }
-    let served = serve(supply, clients, said, now, event);
+    let served = serve(supply, clients, outputs, now, event);
     supply.end();
     served
 }
@@ -66,7 +66,7 @@ fn visit<P: HoldingPlace, S: Supply<P>>(
 struct Stage<'t> {
     scenario: &'t Scenario<'t>,
     now: u64,
-    said: Vec<StepOutput>,
+    outputs: Vec<StepOutput>,
     text: Vec<u8>,
 }
 
@@ -76,7 +76,7 @@ impl<'t> Stage<'t> {
         Stage {
             scenario,
             now: 0,
-            said: Vec::new(alloc),
+            outputs: Vec::new(alloc),
             text: Vec::new(alloc),
         }
     }
@@ -90,9 +90,9 @@ impl<'t> Stage<'t> {
         event: &ScenarioEvent,
     ) -> Option<()> {
         self.now = self.now.max(event.moment);
-        self.said.clear();
-        visit(supply, clients, &mut self.said, self.now, event).ok()?;
-        tell(alloc, &mut self.text, &self.said)
+        self.outputs.clear();
+        visit(supply, clients, &mut self.outputs, self.now, event).ok()?;
+        tell(alloc, &mut self.text, &self.outputs)
     }
 
     /// All events happen, up to the one that closes the broker.
@@ -116,11 +116,11 @@ impl<'t> Stage<'t> {
         supply: &mut S,
         clients: &mut ClientTable<P>,
     ) -> Option<()> {
-        self.said.clear();
+        self.outputs.clear();
         for number in 0..CLIENTS as u8 {
-            let _told = clients.closing(supply, number, self.now, &mut self.said);
+            let _told = clients.closing(supply, number, self.now, &mut self.outputs);
         }
-        tell(alloc, &mut self.text, &self.said)
+        tell(alloc, &mut self.text, &self.outputs)
     }
 
     /// The scenario with these clients.

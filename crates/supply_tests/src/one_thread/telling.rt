@@ -7,8 +7,8 @@ use mqtt_wire::encode_into;
 use std::alloc::Global;
 
 /// Adds the lines of what was said.
-pub(crate) fn tell(alloc: Global, text: &mut Vec<u8>, said: &[StepOutput]) -> Option<()> {
-    for step in said {
+pub(crate) fn tell(alloc: Global, text: &mut Vec<u8>, outputs: &[StepOutput]) -> Option<()> {
+    for step in outputs {
         tell_step(alloc, text, step)?;
     }
     Some(())

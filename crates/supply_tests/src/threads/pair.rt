@@ -24,7 +24,7 @@ pub(crate) struct Pair {
     // What the member was handed, and has not answered.
     identifiers: Vec<u16>,
     answers: u32,
-    said: Vec<StepOutput>,
+    outputs: Vec<StepOutput>,
 }
 
 impl Pair {
@@ -36,7 +36,7 @@ impl Pair {
             seen: Seen::NOTHING,
             identifiers: Vec::new(alloc),
             answers: 0,
-            said: Vec::new(alloc),
+            outputs: Vec::new(alloc),
         }
     }
 
@@ -59,7 +59,7 @@ impl Pair {
 
     /// Reads what they were told.
     fn read(&mut self) -> Option<()> {
-        self.seen.read(&self.said, &mut self.identifiers)
+        self.seen.read(&self.outputs, &mut self.identifiers)
     }
 
     /// A piece comes from one of the clients, in a visit of its own.
@@ -72,8 +72,8 @@ impl Pair {
     ) -> Option<()>
         requires { connection < 64 }
     {
-        self.said.clear();
-        receive(supply, table, connection, piece, &mut self.said).ok()?;
+        self.outputs.clear();
+        receive(supply, table, connection, piece, &mut self.outputs).ok()?;
         self.read()
     }
 
@@ -83,8 +83,8 @@ impl Pair {
         supply: &mut S,
         table: &mut ClientTable<P>,
     ) -> Option<()> {
-        self.said.clear();
-        tick(supply, table, self.member(), &mut self.said).ok()?;
+        self.outputs.clear();
+        tick(supply, table, self.member(), &mut self.outputs).ok()?;
         self.read()
     }
 

@@ -6,5 +6,5 @@ use Rattle.drive.proofs.driving.happen.Goals as goal
 pub tell-requires : goal.tell-requires
 tell-requires c =
     let happened = c.in-Ok.ensures in
-    let said : c.deref.result.now ≡ happened.0 = cc in
-    subst AllWritable (sym said) (c.requires happened.0 c.happen.new.self happened.2)
+    let outputs : c.deref.result.now ≡ happened.0 = cc in
+    subst AllWritable (sym outputs) (c.requires happened.0 c.happen.new.self happened.2)

@@ -10,7 +10,7 @@ returns-in-Ok-clause-ok c =
     (λ text played. record {
       first = c.in-Ok.server;
       new = c.in-Ok.ensures;
-      said = played.0;
+      outputs = played.0;
       last = c.transcribe-text.new.server;
       happens = played.2;
       reports = played.1;

@@ -4,4 +4,4 @@ use Rattle.local_server.proofs.TakenSteps.{all_lawful}
 use Rattle.local_server.proofs.laws.acceptance_law.Goals as goal
 
 pub returns : goal.returns
-returns c setup events said first last new run steps taken = all_acknowledge steps (all_lawful events said first last run steps taken)
+returns c setup events outputs first last new run steps taken = all_acknowledge steps (all_lawful events outputs first last run steps taken)

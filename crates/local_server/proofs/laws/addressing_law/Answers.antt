@@ -3,5 +3,5 @@ use Rattle.local_server.proofs.Addressed.{answered, numbered, new_numbered}
 use Rattle.local_server.proofs.laws.addressing_law.Goals as goal
 
 pub returns : goal.returns
-returns c setup events said moment event result first old new started run happens =
-    (answered moment event said result old new (numbered events first old (new_numbered setup first started) run) happens).1
+returns c setup events outputs moment event result first old new started run happens =
+    (answered moment event outputs result old new (numbered events first old (new_numbered setup first started) run) happens).1

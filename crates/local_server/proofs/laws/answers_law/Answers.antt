@@ -3,4 +3,4 @@ use Rattle.local_server.proofs.TakenSteps.{taken}
 use Rattle.local_server.proofs.laws.answers_law.Goals as goal
 
 pub returns : goal.returns
-returns c setup events said first last new run = taken setup events said first last new run
+returns c setup events outputs first last new run = taken setup events outputs first last new run

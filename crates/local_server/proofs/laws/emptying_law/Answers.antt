@@ -3,4 +3,4 @@ use Rattle.local_server.proofs.Emptied.{emptied}
 use Rattle.local_server.proofs.laws.emptying_law.Goals as goal
 
 pub returns : goal.returns
-returns c moment said result old new opens happens = emptied moment said result old new opens happens
+returns c moment outputs result old new opens happens = emptied moment outputs result old new opens happens

@@ -4,5 +4,5 @@ use Rattle.local_server.proofs.Publishers.{accepted}
 use Rattle.local_server.proofs.laws.publisher_law.Goals as goal
 
 pub returns : goal.returns
-returns c setup events said moment event result first old new started run happens =
-    accepted moment event said result old new (numbered events first old (new_numbered setup first started) run) happens
+returns c setup events outputs moment event result first old new started run happens =
+    accepted moment event outputs result old new (numbered events first old (new_numbered setup first started) run) happens

@@ -4,7 +4,7 @@ use Rattle.local_server.proofs.Transcripts.{shortness}
 use Rattle.local_server.proofs.laws.size_law.Goals as goal
 
 pub returns-clause-short : goal.returns-clause-short
-returns-clause-short c setup events said first last new all = shortness setup events said first last new all
+returns-clause-short c setup events outputs first last new all = shortness setup events outputs first last new all
 
 pub returns-clause-writable : goal.returns-clause-writable
-returns-clause-writable c setup events said first last new all = writable said (shortness setup events said first last new all)
+returns-clause-writable c setup events outputs first last new all = writable outputs (shortness setup events outputs first last new all)

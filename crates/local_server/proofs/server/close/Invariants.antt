@@ -3,4 +3,4 @@ use Rattle.local_server.proofs.Closing.{HaveEnded}
 use Rattle.local_server.proofs.server.close.Given as goal
 
 abbrev pub invariant-numbers : goal.invariant-numbers
-invariant-numbers l = HaveEnded l.number l.initial.supply l.fn.clients l.now l.fn.said.items l.said.items l.ended l.clients l.supply
+invariant-numbers l = HaveEnded l.number l.initial.supply l.fn.clients l.now l.fn.outputs.items l.outputs.items l.ended l.clients l.supply

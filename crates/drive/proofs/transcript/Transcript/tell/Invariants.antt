@@ -5,4 +5,4 @@ use Rattle.drive.specs.Forms.{lines_as}
 use Rattle.drive.proofs.transcript.Transcript.tell.Given as goal
 
 abbrev pub invariant-loop-step : goal.invariant-loop-step
-invariant-loop-step l = l.self ≡ l.fn.self ++ flat_map (lines_as l.form) (take l.step-index l.said)
+invariant-loop-step l = l.self ≡ l.fn.self ++ flat_map (lines_as l.form) (take l.step-index l.outputs)
