@@ -1,5 +1,5 @@
 -- What was so amid rounds is so amid more of them.
-use Rattle.std.proofs.Common.{◌≡◌, ℕ, List, Option, Some, refl, sym, subst, ◌∙◌, inl, inr, ⊎_elim, arith}
+use Rattle.std.proofs.Common.{◌≡◌, ℕ, List, Option, Some, refl, sym, ap, subst, ◌∙◌, inl, inr, ⊎_elim, arith}
 use Rattle.std.proofs.Math.Nat.{le_trans}
 use Rattle.transport.specs.declared.counts.Counts.{Counts}
 use Rattle.group_queue.specs.Ports.{GroupId}
@@ -7,12 +7,19 @@ use Rattle.broker_groups.specs.Answers.{Sights}
 use Rattle.shared_supply.specs.declared.wakes.Wakes.{Wakes}
 use Rattle.worker_connections.specs.Members.{HasTaker, TakesIn}
 use Rattle.worker_connections.specs.Serving.{ConnectionsState, GoesBy, Rounds, round_of, with_wakes}
+use Rattle.worker_connections.specs.Sweeping.{Begins}
+use Rattle.worker_connections.specs.declared.sweeps.Sweeps.{Sweeps}
 use Rattle.broker_worker.specs.Offering.{Amid, GoesOn, IsAsked, IsOffered, Offers, OffersEach}
 use Rattle.conn_service.specs.declared.served.Direction.TheVariants.{Outbound}
 use Rattle.conn_service.specs.declared.served.Round.{Round}
 use Rattle.conn_service.specs.declared.served.Round.TheVariants as rounds
 use Rattle.worker_connections.specs.declared.cell_outcome.CellOutcome.{CellOutcome}
 use Rattle.worker_connections.specs.declared.cell_outcome.CellOutcome.TheVariants.{Vacant, Goes, Ended}
+
+-- a sweep begins at the same moment
+pub same_moment : (count : ℕ) (old new : Sweeps) → Begins count old new → new.latest ≡ old.latest
+same_moment count old new (inl begins) = ap (λ (s : Sweeps). s.latest) begins.1
+same_moment count old new (inr begins) = ap (λ (s : Sweeps). s.latest) begins.1
 
 module _ {T : Type 0} where
   -- no round was made

@@ -9,7 +9,7 @@ use call_history::HistoryName;
 use conn_service::Direction;
 use std::sync::Wait;
 use transport::Transport;
-use worker_bells::{Held, Level, SLOTS};
+use worker_bells::{FillLevel, Held, SLOTS};
 use worker_connections::Poller;
 
 impl<'a, 'g, B: Broker, N: HistoryName, T: Transport + Drop, Q: Poller<T> + Drop, R: Wait> Worker<
@@ -44,7 +44,7 @@ impl<'a, 'g, B: Broker, N: HistoryName, T: Transport + Drop, Q: Poller<T> + Drop
         self.connections
             .members()
             .count_held(slot, &mut self.sharing.own);
-        let level = Level::of(&[], &self.sharing.own, u64::from(plan.share));
+        let level = FillLevel::of(&[], &self.sharing.own, u64::from(plan.share));
         let mut spare = level.spare;
         let mut left = plan.share;
         let next = self.connections.members().next(slot);

@@ -1,7 +1,7 @@
 //! What a worker knows of the members of a group, its own and the other workers', and how many of the messages that wait are for its own: those that have the fewest come first.
 ghost use Rattle.std.specs.Prelude.{◌<◌, IfSome};
 
-use worker_bells::{Average, HeldCounts, Level, Load, SLOTS};
+use worker_bells::{Average, FillLevel, HeldCounts, Load, SLOTS};
 
 /// Of so many workers at most it is told what they have: no broker has more.
 pub(crate) const MOST_WORKERS: usize = 64;
@@ -132,8 +132,8 @@ impl Sharing {
     }
 
     /// How far so many messages fill the members of all workers.
-    pub(crate) fn level(&self, workers: usize, waiting: u32) -> Level {
-        Level::of(
+    pub(crate) fn level(&self, workers: usize, waiting: u32) -> FillLevel {
+        FillLevel::of(
             &self.others[..workers.min(MOST_WORKERS)],
             &self.own,
             u64::from(waiting),
@@ -141,7 +141,7 @@ impl Sharing {
     }
 
     /// How many of the messages of a group that wait are the share of a worker that was called for one of them: of those members that have as few its own come first.
-    pub(crate) fn share_of_called(&self, level: Level, waiting: u32) -> u32 {
+    pub(crate) fn share_of_called(&self, level: FillLevel, waiting: u32) -> u32 {
         u32::try_from(level.share(&self.own, u64::from(waiting), 0)).unwrap_or(u32::MAX)
     }
 
@@ -151,7 +151,7 @@ impl Sharing {
         workers: usize,
         own: usize,
         slot: usize,
-        level: Level,
+        level: FillLevel,
         waiting: u32,
     ) -> u32 {
         let count = u64::from(waiting);

@@ -2,10 +2,11 @@
 ghost use Rattle.std.specs.Prelude.{◌≡◌, ◌*◌, [], None, true, length, replicate, IfErr, IfOk};
 ghost use Rattle.worker_connections.specs.Handles.{IsUnused};
 ghost use Rattle.worker_connections.specs.Chains.{HasRunTo};
-ghost use Rattle.worker_connections.specs.Serving.{AreCounted, AreFresh, IsDone, Rounds, StaysOf, live, run_of, wakes_of};
+ghost use Rattle.worker_connections.specs.Serving.{AreCounted, AreFresh, IsDone, RetiresAll, Rounds, StaysOf, live, run_of, wakes_of};
 ghost use Rattle.broker_worker.specs.Offering.{OffersEach, OffersInSweep};
 ghost use Rattle.shared_supply.specs.Waking.{no_wakes};
 ghost use Rattle.broker_worker.specs.Resting.{MayWait};
+ghost use Rattle.broker_worker.specs.Retiring.{RetiresInSweep};
 ghost use Rattle.worker_connections.specs.Sweeping.{AreTicked, IsInTime};
 
 use crate::marks::Marks;
@@ -163,22 +164,36 @@ impl<'a, 'g, B: Broker, N: HistoryName, T: Transport + Drop, Q: Poller<T> + Drop
         ensures rests { MayWait result self.new }
         ensures ticked { AreTicked self.new.connections.sweeps.latest self.new.connections.cells }
         ensures told { wakes_of self.new.connections ≡ no_wakes }
+        ensures retired { RetiresInSweep B.group B.Seen.Witness self.old.connections self.new.connections }
         ensures offered { OffersInSweep B.group B.Seen.Witness T.counts T.given T.accepted self.old.connections self.new.connections }
     {
         self.serve(buffer);
         self.next_wait()
     }
 
-    /// Goes on with the connections that are due, or with all of them where a sweep begins.
+    /// Goes on with the connections that are due, or with all of them where a sweep begins. In a sweep the sessions end whose time is over, before anything else is done.
     fn serve(&mut self, buffer: &mut [u8; READ_SIZE])
         ensures same { StaysOf self.old.connections self.new.connections }
         ensures in_time { IsInTime self.new.connections.sweeps }
         ensures told { wakes_of self.new.connections ≡ no_wakes }
+        ensures retired { RetiresInSweep B.group B.Seen.Witness self.old.connections self.new.connections }
         ensures offered { OffersInSweep B.group B.Seen.Witness T.counts T.given T.accepted self.old.connections self.new.connections }
     {
         let all = self.connections.begin_sweep();
+        self.retire_if(all);
         self.serve_due(all, buffer);
         self.share_out(all, buffer);
+    }
+
+    /// Where a sweep has begun, ends the sessions whose time is over: no connection may be there that ticks. What they held, others are told of with what this turn brings.
+    fn retire_if(&mut self, sweeps: bool)
+        ensures goes { Rounds self.old.connections self.new.connections }
+        ensures same { self.new.connections ≡ record self.old.connections { supply = self.new.connections.supply } }
+        ensures retired { sweeps ≡ true → RetiresAll B.group B.Seen.Witness self.old.connections self.new.connections }
+    {
+        if sweeps {
+            self.connections.retire_due();
+        }
     }
 
     /// Hands out jobs, and calls others for those that are theirs; then the replies are written. In a sweep, something is offered to the members of each group.
@@ -248,8 +263,8 @@ impl<'a, 'g, B: Broker, N: HistoryName, T: Transport + Drop, Q: Poller<T> + Drop
         self.tick_first(opened);
     }
 
-    /// Has a connection that was opened in a cell, if one was, begin with a Tick. So sessions whose time is over end before its CONNECT is answered, also where no other connection is
-    /// there that ticks; else a table that is full of them would keep out each newcomer.
+    /// Has a connection that was opened in a cell, if one was, begin with a Tick. So sessions whose time is over by then end before its CONNECT is answered: without it, a table that is full
+    /// of them would keep out a newcomer who comes before the next sweep.
     fn tick_first(&mut self, opened: Option<usize>)
         ensures { Rounds self.old.connections self.new.connections }
     {

@@ -17,8 +17,9 @@ use Rattle.worker_connections.specs.declared.served.ServedCounts.{ServedCounts}
 use Rattle.worker_connections.specs.Arrivals.{ArrivedState}
 use Rattle.worker_connections.specs.PollerCalls.{PollerCall, Close, Wait, HasNoCalls, with_call, closed_after}
 use Rattle.worker_connections.specs.Counting.{counted_behind, none_served}
+use Rattle.worker_connections.specs.Retiring.{RetiresDue}
 use Rattle.worker_connections.specs.Serving.{TakesIn}
-use Rattle.worker_connections.specs.Chains.{Deed, Opened, Closed, Allowed, MadeRound, Passed, Called, Notified, NotifiedAll, Waited, RunState, Makes, MakesAll, HasRunTo, OwesNothing, came_in, came_by}
+use Rattle.worker_connections.specs.Chains.{Deed, Opened, Closed, Allowed, MadeRound, Passed, RetiredDue, Called, Notified, NotifiedAll, Waited, RunState, Makes, MakesAll, HasRunTo, OwesNothing, came_in, came_by}
 use Rattle.worker_connections.specs.Sweeping.{sweep_period}
 
 module _ {T : Type 0} (group : ℕ → GroupId) (seen : Sights) (counts : T → Counts) (given accepted : T → Option (List ℕ)) where
@@ -131,6 +132,13 @@ module _ {T : Type 0} (group : ℕ → GroupId) (seen : Sights) (counts : T → 
       (runs_on group seen counts given accepted (Allowed most) _ (record { first = first; supply = allowed; cells = cells; received = received; served = served; poller_calls = poller_calls; latest = latest }) ran
       (λ i. record { first = first; supply = allows i; cells = cells; received = received; served = served; poller_calls = poller_calls; latest = latest })) deed.1
 
+  -- the sessions whose time was over were retired
+  pub retires_on : (supply supply' : Worker) (cells : List (Option (ServiceState PlaceState T))) (received : List (ArrivedState T)) (served : ServedCounts) (poller_calls : Option (List (PollerCall T)))
+      → RetiresDue group seen supply latest supply'
+      → HasRunTo group seen counts given accepted (record { first = first; supply = supply; cells = cells; received = received; served = served; poller_calls = poller_calls; latest = latest })
+      → HasRunTo group seen counts given accepted (record { first = first; supply = supply'; cells = cells; received = received; served = served; poller_calls = poller_calls; latest = latest })
+  retires_on supply supply' cells received served poller_calls retires ran = runs_on group seen counts given accepted (RetiredDue latest) _ _ ran (retires, refl, refl)
+
   -- it was called for a message of this group
   pub called_on : (slot : ℕ) (supply supply' : Worker) (cells : List (Option (ServiceState PlaceState T))) (received : List (ArrivedState T)) (served : ServedCounts) (poller_calls : Option (List (PollerCall T)))
       → supply' ≡ record supply { wakes = one_called slot supply.wakes }
@@ -181,6 +189,7 @@ module _ {T : Type 0} (group : ℕ → GroupId) (seen : Sights) (counts : T → 
   came_one (Allowed most) old new does = ap (λ (s : RunState T). s.received) does ∙ sym (append-nil old.received)
   came_one (MadeRound cell now acts how) old new does = ap (λ (s : RunState T). s.received) does.1 ∙ sym (append-nil old.received)
   came_one (Passed cell) old new does = ap (λ (s : RunState T). s.received) does.1 ∙ sym (append-nil old.received)
+  came_one (RetiredDue now) old new does = ap (λ (s : RunState T). s.received) does.1 ∙ sym (append-nil old.received)
   came_one (Called slot) old new does = ap (λ (s : RunState T). s.received) does ∙ sym (append-nil old.received)
   came_one (Notified most others) old new does = ap (λ (s : RunState T). s.received) does.1 ∙ sym (append-nil old.received)
   came_one NotifiedAll old new does = ap (λ (s : RunState T). s.received) does ∙ sym (append-nil old.received)

@@ -31,9 +31,11 @@ use Rattle.session_desk.specs.declared.error.DeskError.{DeskError}
 use Rattle.session_desk.specs.declared.newcomers.Newcomers.TheVariants.{Refused}
 use Rattle.shared_supply.specs.Calls.{Calls, IsToldOfDesk, OffersIn, missing}
 use Rattle.shared_supply.specs.Workers.{Worker, Begins, Leaves, is_visiting}
-use Rattle.worker_connections.specs.Chains.{Deed, Opened, Closed, Allowed, MadeRound, Passed, Called, Notified, NotifiedAll, Waited, Makes, MakesAll, RunState}
+use Rattle.worker_connections.specs.Chains.{Deed, Opened, Closed, Allowed, MadeRound, Passed, RetiredDue, Called, Notified, NotifiedAll, Waited, Makes, MakesAll, RunState}
 use Rattle.worker_connections.specs.Draining.{tells_to_drain}
+use Rattle.worker_connections.specs.Retiring.{RetiresDue}
 use Rattle.worker_connections.proofs.Publishing.{no_others}
+use Rattle.worker_connections.proofs.Retired.{retiring_calls}
 
 -- it drains as before, and where it drains, nothing came into its ports
 record StaysShut (old new : Worker) : Type 0 where
@@ -114,12 +116,25 @@ module _ (group : ℕ → GroupId) (seen : Sights) where
       let calls = failed (Calls group seen) slot_of old new client.conn.number (moment_of client now) client.conn.phase inputs.EndOfInput fails.failed in
       all_called calls.supply_calls old new calls.made
 
+  -- a visit begins, and ends
+  entered : (old new : Worker) → Begins old new → StaysShut old new
+  entered old new begins = record { as_before = begins.draining; accepted_none = λ drains. begins.ports }
+
+  left : (old new : Worker) → Leaves old new → StaysShut old new
+  left old new leaves = record { as_before = ap (λ (w : Worker). w.draining) leaves.becomes; accepted_none = λ drains. ap (λ (w : Worker). w.ports) leaves.becomes }
+
+  -- sessions are retired in a visit of their own
+  retired : (old new : Worker) (now : ℕ) → RetiresDue group seen old now new → StaysShut old new
+  retired old new now retires =
+      let calls = retiring_calls group seen old new now retires in
+      let its = calls.1 in
+      both old its.begun new (entered old its.begun its.begins) (both its.begun its.mid new (all_called calls.0 its.begun its.mid its.made) (left its.mid new its.leaves))
+
   module _ {T : Type 0} (counts : T → Counts) (given accepted : T → Option (List ℕ)) where
     acted : (act : Act) (old new : ServiceState PlaceState T) (supply supply' : Worker) (now : ℕ) (from to : Stand)
         → Does (Calls group seen) Begins Leaves is_visiting slot_of counts given accepted act old supply new supply' → Treads now from act to → StaysShut supply supply'
-    acted (Enters is_open reads) old new supply supply' now from to does treads = record { as_before = does.begun.draining; accepted_none = λ drains. does.begun.ports }
-    acted Left old new supply supply' now from to does treads =
-        record { as_before = ap (λ (w : Worker). w.draining) does.ended.becomes; accepted_none = λ drains. ap (λ (w : Worker). w.ports) does.ended.becomes }
+    acted (Enters is_open reads) old new supply supply' now from to does treads = entered supply supply' does.begun
+    acted Left old new supply supply' now from to does treads = left supply supply' does.ended
     acted (Asks is_kicked) old new supply supply' now from to does treads = called (Kicked old.client.conn.number is_kicked) supply supply' does.asked
     acted (Reads size got bytes) old new supply supply' now from to does treads = same supply supply' does.same
     acted (Writes at put) old new supply supply' now from to does treads = same supply supply' does.same
@@ -165,6 +180,7 @@ module _ (group : ℕ → GroupId) (seen : Sights) where
         let goes = does.0.becomes in
         untold old.supply new.supply (walked goes.round.led.acts goes.service goes.behind old.supply new.supply now Outside Behind goes.round.led.does goes.round.led.walks)
     done (Passed cell) old new does = supply_kept old new (ap (λ (s : RunState T). s.supply) does.1)
+    done (RetiredDue now) old new does = untold old.supply new.supply (retired old.supply new.supply now does.0)
     done (Called slot) old new does = record { as_told = ap (λ (s : RunState T). s.supply.draining) does; accepted_none = λ drains. ap (λ (s : RunState T). s.supply.ports) does }
     done (Notified most others) old new does =
         record { as_told = ap (λ (s : RunState T). s.supply.draining) does.1; accepted_none = λ drains. ap (λ (s : RunState T). s.supply.ports) does.1 }

@@ -39,7 +39,7 @@ use Rattle.shared_supply.specs.Calls.{Calls}
 use Rattle.shared_supply.specs.Workers.{Worker, Begins, Leaves, is_visiting}
 use Rattle.worker_connections.specs.Cells.{Opens}
 use Rattle.worker_connections.specs.Arrivals.{opening_at}
-use Rattle.worker_connections.specs.Chains.{Deed, Opened, Closed, Allowed, MadeRound, Passed, Called, Notified, NotifiedAll, Waited, IsFirst, LeavesCell, Makes, MakesAll, RunState}
+use Rattle.worker_connections.specs.Chains.{Deed, Opened, Closed, Allowed, MadeRound, Passed, RetiredDue, Called, Notified, NotifiedAll, Waited, IsFirst, LeavesCell, Makes, MakesAll, RunState}
 use Rattle.worker_connections.proofs.Parts.{at_cell}
 
 -- a client that has its session has the window, and the session is not ending
@@ -147,6 +147,7 @@ module _ (group : ℕ → GroupId) (seen : Sights) where
     made_going (Passed cell) old new does all =
         let made = does.0 in
         subst AreGoing (sym made.is) (All-set IfGoing old.cells cell made.after (subst IfGoing (sym made.becomes.1) tt) all)
+    made_going (RetiredDue now) old new does all = subst (λ (s : RunState T). AreGoing s.cells) (sym does.1) all
     made_going (Called slot) old new does all = subst (λ (s : RunState T). AreGoing s.cells) (sym does) all
     made_going (Notified most others) old new does all = subst (λ (s : RunState T). AreGoing s.cells) (sym does.1) all
     made_going NotifiedAll old new does all = subst (λ (s : RunState T). AreGoing s.cells) (sym does) all

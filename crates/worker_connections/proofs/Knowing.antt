@@ -33,7 +33,9 @@ use Rattle.shared_supply.specs.Waking.{asking_back, freeing}
 use Rattle.shared_supply.specs.Workers.{Worker, Begins, Leaves, is_visiting}
 use Rattle.worker_connections.specs.declared.cell_outcome.CellOutcome.{CellOutcome}
 use Rattle.worker_connections.specs.Cells.{InCell, Turns}
+use Rattle.worker_connections.specs.Retiring.{RetiresDue}
 use Rattle.worker_connections.proofs.Publishing.{no_others}
+use Rattle.worker_connections.proofs.Retired.{retiring_calls}
 
 -- the table of the routes that a worker knows, and its parts of the right to call the desk
 abbrev pub ties : Worker → RoutesId × ℕ
@@ -106,10 +108,21 @@ module _ (group : ℕ → GroupId) (seen : Sights) where
       let calls = failed (Calls group seen) slot_of old new client.conn.number (moment_of client now) client.conn.phase inputs.EndOfInput fails.failed in
       all_called calls.supply_calls old new calls.made
 
+  -- a visit begins
+  entered : (old new : Worker) → Begins old new → ties new ≡ ties old
+  entered old new begins = both begins.known.1.table (ap (λ (c : CallerState (Call Held PlaceState)). c.parts) begins.desk)
+
+  -- so it is after sessions were retired in a visit of their own
+  pub retired_ties : (old new : Worker) (now : ℕ) → RetiresDue group seen old now new → ties new ≡ ties old
+  retired_ties old new now retires =
+      let calls = retiring_calls group seen old new now retires in
+      let its = calls.1 in
+      ap ties its.leaves.becomes ∙ all_called calls.0 its.begun its.mid its.made ∙ entered old its.begun its.begins
+
   module _ {T : Type 0} (counts : T → Counts) (given accepted : T → Option (List ℕ)) where
     acted : (act : Act) (old new : ServiceState PlaceState T) (supply supply' : Worker) (now : ℕ) (from to : Stand)
         → Does (Calls group seen) Begins Leaves is_visiting slot_of counts given accepted act old supply new supply' → Treads now from act to → ties supply' ≡ ties supply
-    acted (Enters is_open reads) old new supply supply' now from to does treads = both does.begun.known.1.table (ap (λ (c : CallerState (Call Held PlaceState)). c.parts) does.begun.desk)
+    acted (Enters is_open reads) old new supply supply' now from to does treads = entered supply supply' does.begun
     acted Left old new supply supply' now from to does treads = ap ties does.ended.becomes
     acted (Asks is_kicked) old new supply supply' now from to does treads = called (Kicked old.client.conn.number is_kicked) supply supply' does.asked
     acted (Reads size got bytes) old new supply supply' now from to does treads = ap ties does.same

@@ -8,6 +8,7 @@ pub mod Swept
 pub mod Ticking
 pub mod Wished
 pub mod Publishing
+pub mod Retired
 pub mod Sessions
 pub mod Occupied
 pub mod Turning

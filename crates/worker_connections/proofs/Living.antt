@@ -17,7 +17,7 @@ use Rattle.worker_connections.specs.Cells.{Opens}
 use Rattle.shared_supply.specs.Calls.{Calls}
 use Rattle.shared_supply.specs.Workers.{Begins, Leaves, is_visiting}
 use Rattle.worker_connections.specs.Arrivals.{ArrivedState, opening_at}
-use Rattle.worker_connections.specs.Chains.{Deed, Opened, Closed, Allowed, MadeRound, Passed, Called, Notified, NotifiedAll, Waited, LeavesCell, Makes, MakesAll, RunState, came_in, came_by}
+use Rattle.worker_connections.specs.Chains.{Deed, Opened, Closed, Allowed, MadeRound, Passed, RetiredDue, Called, Notified, NotifiedAll, Waited, LeavesCell, Makes, MakesAll, RunState, came_in, came_by}
 use Rattle.worker_connections.specs.Lives.{HasLived, IfLived}
 use Rattle.worker_connections.proofs.Parts.{at_cell, both_parts}
 
@@ -121,6 +121,7 @@ module _ {T : Type 0} (group : ℕ → GroupId) (seen : Sights) (counts : T → 
   lives (Passed cell) old new fresh does all =
       let made = does.0 in
       subst AllLived (sym made.is) (All-set Lived old.cells cell made.after (subst Lived (sym made.becomes.1) tt) all)
+  lives (RetiredDue now) old new fresh does all = subst (λ (s : RunState T). AllLived s.cells) (sym does.1) all
   lives (Called slot) old new fresh does all = subst (λ (s : RunState T). AllLived s.cells) (sym does) all
   lives (Notified most others) old new fresh does all = subst (λ (s : RunState T). AllLived s.cells) (sym does.1) all
   lives NotifiedAll old new fresh does all = subst (λ (s : RunState T). AllLived s.cells) (sym does) all

@@ -23,7 +23,7 @@ use Rattle.shared_supply.specs.Calls.{Calls}
 use Rattle.shared_supply.specs.Workers.{Worker, Begins, Leaves, is_visiting}
 use Rattle.worker_connections.specs.Arrivals.{opening_at}
 use Rattle.worker_connections.specs.Cells.{Opens}
-use Rattle.worker_connections.specs.Chains.{Deed, Opened, Closed, Allowed, MadeRound, Passed, Called, Notified, NotifiedAll, Waited, IsRun, LeavesCell, Makes, MakesAll, Run, RunState}
+use Rattle.worker_connections.specs.Chains.{Deed, Opened, Closed, Allowed, MadeRound, Passed, RetiredDue, Called, Notified, NotifiedAll, Waited, IsRun, LeavesCell, Makes, MakesAll, Run, RunState}
 use Rattle.worker_connections.specs.Numbers.{AreNumberedFrom, KeepsNumbers}
 use Rattle.worker_connections.proofs.Parts.{at_cell}
 
@@ -115,6 +115,7 @@ module _ {T : Type 0} (group : ℕ → GroupId) (seen : Sights) (counts : T → 
   same_first (Allowed most) old new does = ap (λ (s : RunState T). s.first) does
   same_first (MadeRound cell now acts how) old new does = ap (λ (s : RunState T). s.first) does.1
   same_first (Passed cell) old new does = ap (λ (s : RunState T). s.first) does.1
+  same_first (RetiredDue now) old new does = ap (λ (s : RunState T). s.first) does.1
   same_first (Called slot) old new does = ap (λ (s : RunState T). s.first) does
   same_first (Notified most others) old new does = ap (λ (s : RunState T). s.first) does.1
   same_first NotifiedAll old new does = ap (λ (s : RunState T). s.first) does
@@ -140,6 +141,7 @@ module _ {T : Type 0} (group : ℕ → GroupId) (seen : Sights) (counts : T → 
   numbered (Passed cell) old new does all =
       let made = does.0 in
       set_number old.first cell old.cells new.cells made.before made.after made.has made.is (subst (HasNumber (old.first + cell)) (sym made.becomes.1) tt) all
+  numbered (RetiredDue now) old new does all = subst (λ (s : RunState T). AreNumberedFrom old.first s.cells) (sym does.1) all
   numbered (Called slot) old new does all = subst (λ (s : RunState T). AreNumberedFrom old.first s.cells) (sym does) all
   numbered (Notified most others) old new does all = subst (λ (s : RunState T). AreNumberedFrom old.first s.cells) (sym does.1) all
   numbered NotifiedAll old new does all = subst (λ (s : RunState T). AreNumberedFrom old.first s.cells) (sym does) all

@@ -19,7 +19,7 @@ use Rattle.conn_rules.specs.declared.connecting.FirstAnswer.{FirstAnswer}
 use Rattle.conn_rules.specs.declared.connecting.FirstAnswer.TheVariants as first
 use Rattle.conn_rules.specs.declared.publishing.PublishAnswer.{PublishAnswer}
 use Rattle.conn_rules.specs.declared.publishing.PublishAnswer.TheVariants as answers
-use Rattle.conn_rules.specs.declared.limits.ClientLimits.{ClientLimits}
+use Rattle.conn_rules.specs.declared.client_limits.ClientLimits.{ClientLimits}
 use Rattle.conn_rules.specs.Connecting.{first_answer}
 use Rattle.conn_rules.specs.Packets.{puback}
 use Rattle.conn_rules.specs.Publishing.{publish_answer, puback_code, message_of}
@@ -49,8 +49,10 @@ use Rattle.conn_service.specs.Services.{ServiceState}
 use Rattle.conn_service.specs.Visits.{Stand, Outside, Inside, Behind, Parting, Parted, Treads, Walks}
 use Rattle.shared_supply.specs.Calls.{Calls, OffersIn, missing}
 use Rattle.shared_supply.specs.Workers.{Worker, Begins, Leaves, is_visiting}
-use Rattle.worker_connections.specs.Chains.{Deed, Opened, Closed, Allowed, MadeRound, Passed, Called, Notified, NotifiedAll, Waited, Makes, Run, RunState}
+use Rattle.worker_connections.specs.Chains.{Deed, Opened, Closed, Allowed, MadeRound, Passed, RetiredDue, Called, Notified, NotifiedAll, Waited, Makes, Run, RunState}
+use Rattle.worker_connections.proofs.Retired.{retiring_calls}
 use Rattle.worker_connections.specs.EachAct.{EachAct, EachActOf}
+use Rattle.worker_connections.specs.Retiring.{RetiresDue}
 use Rattle.worker_connections.specs.Publishing.{IsPromised, IsCutShort, IsPublished, IsPublishedBy, Publishes, PublishesAt, PublishesIn, PublishesSome, PublisherState, PutsInto, PutsSome, publisher_of, slots_matched}
 
 -- nothing is found in front of a list, and nothing in it
@@ -398,6 +400,12 @@ module _ (group : ℕ → GroupId) (seen : Sights) where
       (λ (same : new.ports ≡ old.ports). same)
       (at_failed inputs.EndOfInput old new client.conn.number (moment_of client now) client.conn.phase fails.failed)
 
+  -- sessions that are retired in a visit of their own
+  retired : (old new : Worker) (now : ℕ) → RetiresDue group seen old now new → new.ports ≡ old.ports
+  retired old new now retires =
+      let its = (retiring_calls group seen old new now retires).1 in
+      ap (λ (w : Worker). w.ports) its.leaves.becomes ∙ all_stay (retiring_calls group seen old new now retires).0 its.begun its.mid its.offers its.made ∙ its.begins.ports
+
   -- what others do is in no round
   pub no_others : (now : ℕ) (from to : Stand) → Treads now from Others to → ⊥
   no_others now Outside to treads = treads
@@ -463,6 +471,7 @@ module _ (group : ℕ → GroupId) (seen : Sights) where
           is = made.is;
         }
     done (Passed cell) old new does = tt
+    done (RetiredDue now) old new does = tt
     done (Called slot) old new does = tt
     done (Notified most others) old new does = tt
     done NotifiedAll old new does = tt
@@ -470,4 +479,7 @@ module _ (group : ℕ → GroupId) (seen : Sights) where
 
     -- all that came into the ports was published by the acts of the run
     pub all_published : (run : Run T) → IsPublishedBy group seen counts given accepted run
-    all_published run = record { published = (λ these those deed old new split made does. done deed old new does) }
+    all_published run = record {
+      published = (λ these those deed old new split made does. done deed old new does);
+      retiring = (λ these those now old new split made does. retired old.supply new.supply now does.0);
+    }

@@ -23,7 +23,7 @@ use Rattle.shared_supply.specs.Workers.{Worker, Begins, Leaves, is_visiting}
 use Rattle.worker_connections.specs.Arrivals.{ArrivedState, opening_at}
 use Rattle.worker_connections.proofs.Chaining.{came_all}
 use Rattle.worker_connections.proofs.Parts.{at_cell, both_parts}
-use Rattle.worker_connections.specs.Chains.{Deed, Opened, Closed, Allowed, MadeRound, Passed, Called, Notified, NotifiedAll, Waited, IsRun, KeepsReceiveMaximum, LeavesCell, Makes, MakesAll, Run, RunState, came_in, came_by}
+use Rattle.worker_connections.specs.Chains.{Deed, Opened, Closed, Allowed, MadeRound, Passed, RetiredDue, Called, Notified, NotifiedAll, Waited, IsRun, KeepsReceiveMaximum, LeavesCell, Makes, MakesAll, Run, RunState, came_in, came_by}
 
 -- it has no more unacknowledged than its Receive Maximum, and than this limit
 abbrev Within : ℕ → ConnPhase PlaceState → Type 0
@@ -81,6 +81,7 @@ module _ {T : Type 0} (group : ℕ → GroupId) (seen : Sights) (counts : T → 
       let made = does.0 in
       subst (λ (cells : List (Option (ServiceState PlaceState T))). All (IfWithin limit) cells) (sym made.is)
       (All-set (IfWithin limit) old.cells cell made.after (subst (λ (c : Option (ServiceState PlaceState T)). IfWithin limit c) (sym made.becomes.1) tt) all)
+  keeps limit (RetiredDue now) old new few does all = subst (λ (s : RunState T). All (IfWithin limit) s.cells) (sym does.1) all
   keeps limit (Called slot) old new few does all = subst (λ (s : RunState T). All (IfWithin limit) s.cells) (sym does) all
   keeps limit (Notified most others) old new few does all = subst (λ (s : RunState T). All (IfWithin limit) s.cells) (sym does.1) all
   keeps limit NotifiedAll old new few does all = subst (λ (s : RunState T). All (IfWithin limit) s.cells) (sym does) all

@@ -18,8 +18,9 @@ use Rattle.conn_service.specs.Services.{ServiceState}
 use Rattle.conn_service.specs.Visits.{Stand, Outside, Behind, Treads, Walks}
 use Rattle.shared_supply.specs.Calls.{Calls}
 use Rattle.shared_supply.specs.Workers.{Worker, Begins, Leaves, is_visiting}
-use Rattle.worker_connections.specs.Chains.{Deed, Opened, Closed, Allowed, MadeRound, Passed, Called, Notified, NotifiedAll, Waited, Makes, MakesAll, IsRun, Run, RunState}
+use Rattle.worker_connections.specs.Chains.{Deed, Opened, Closed, Allowed, MadeRound, Passed, RetiredDue, Called, Notified, NotifiedAll, Waited, Makes, MakesAll, IsRun, Run, RunState}
 use Rattle.worker_connections.proofs.Publishing.{no_others}
+use Rattle.worker_connections.proofs.Retired.{retiring_calls}
 use Rattle.worker_connections.specs.RunCalls.{AreOfAct, AreOfActs, AreOfDeed, AreOfDeeds, AreOfLastStep, AreCallsOf}
 
 abbrev slot_of : PlaceState → ℕ
@@ -97,6 +98,7 @@ module _ {T : Type 0} (group : ℕ → GroupId) (seen : Sights) (counts : T → 
         },
       )
   done (Passed cell) old new does = ([], refl)
+  done (RetiredDue now) old new does = retiring_calls group seen old.supply new.supply now does.0
   done (Called slot) old new does = ([], refl)
   done (Notified most others) old new does = ([], refl)
   done NotifiedAll old new does = ([], refl)

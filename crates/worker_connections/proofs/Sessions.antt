@@ -10,7 +10,7 @@ use Rattle.conn_service.specs.Services.{ServiceState}
 use Rattle.conn_service.proofs.Sessions.{tells}
 use Rattle.shared_supply.specs.Calls.{Calls}
 use Rattle.shared_supply.specs.Workers.{Worker, Begins, Leaves, is_visiting}
-use Rattle.worker_connections.specs.Chains.{Deed, Opened, Closed, Allowed, MadeRound, Passed, Called, Notified, NotifiedAll, Waited, IsRun, Makes, Run, RunState}
+use Rattle.worker_connections.specs.Chains.{Deed, Opened, Closed, Allowed, MadeRound, Passed, RetiredDue, Called, Notified, NotifiedAll, Waited, IsRun, Makes, Run, RunState}
 use Rattle.worker_connections.proofs.Going.{AreGoing, IsGoing, cell_going, going_on, not_ending, run_going}
 use Rattle.worker_connections.specs.EachAct.{EachAct, EachActOf}
 use Rattle.worker_connections.specs.Sessions.{KeepsSessions, TellsSession}
@@ -51,6 +51,7 @@ module _ {T : Type 0} (group : ℕ → GroupId) (seen : Sights) (counts : T → 
         is = made.is;
       }
   told (Passed cell) old new all does = tt
+  told (RetiredDue now) old new all does = tt
   told (Called slot) old new all does = tt
   told (Notified most others) old new all does = tt
   told NotifiedAll old new all does = tt

@@ -1,7 +1,7 @@
 -- A connection on its way to a worker, and as the worker watches it.
 use Rattle.std.specs.Prelude.{◌≡◌, ℕ, List, Option}
 use Rattle.transport.specs.declared.counts.Counts.{Counts}
-use Rattle.conn_rules.specs.declared.limits.ClientLimits.{ClientLimits}
+use Rattle.conn_rules.specs.declared.client_limits.ClientLimits.{ClientLimits}
 use Rattle.conn_engine.specs.declared.phase.Opening.{Opening}
 
 -- its transport, and what its client is granted at most

@@ -21,6 +21,7 @@ use Rattle.worker_connections.specs.declared.served.ServedCounts.{ServedCounts}
 use Rattle.worker_connections.specs.Arrivals.{ArrivedState, IsWatched, opening_at}
 use Rattle.worker_connections.specs.PollerCalls.{PollerCall, Register, Close, Wait, HasNoCalls, with_call, closed_if}
 use Rattle.worker_connections.specs.Counting.{counted, counted_if, none_served}
+use Rattle.worker_connections.specs.Retiring.{RetiresDue}
 use Rattle.worker_connections.specs.Sweeping.{AreTicked, sweep_period}
 
 -- what a worker did
@@ -35,6 +36,8 @@ pub data Deed (T : Type 0) : Type 0 where
   MadeRound : (cell now : ℕ) → (acts : List Act) → (how : Option Served) → Deed T
   -- nobody was in the cell
   Passed : (cell : ℕ) → Deed T
+  -- the sessions that the desk handed out as over at this moment were retired, as by a Tick, in a visit of the worker's own, unless the gate was shut
+  RetiredDue : (now : ℕ) → Deed T
   -- another worker called it for a message of the group of this slot
   Called : (slot : ℕ) → Deed T
   -- of the messages that others may wait for it kept so many of each group at most, and told others of these
@@ -118,6 +121,7 @@ module _ {T : Type 0} (group : ℕ → GroupId) (seen : Sights) (counts : T → 
       × (new ≡ record old { supply = new.supply; cells = new.cells; served = counted_if how old.served; poller_calls = new.poller_calls }) × (now ≡ old.latest)
   Makes (Passed cell) old new =
       InCell old.cells cell (λ before after. (before ≡ None) × (after ≡ None)) new.cells × (new ≡ record old { cells = new.cells })
+  Makes (RetiredDue now) old new = RetiresDue group seen old.supply now new.supply × (new ≡ record old { supply = new.supply }) × (now ≡ old.latest)
   Makes (Called slot) old new = new ≡ record old { supply = record old.supply { wakes = one_called slot old.supply.wakes } }
   Makes (Notified most others) old new =
       KeepsAtMost most others old.supply.wakes new.supply.wakes × (new ≡ record old { supply = record old.supply { wakes = new.supply.wakes } })

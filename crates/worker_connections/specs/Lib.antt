@@ -1,6 +1,7 @@
 pub mod Arrivals
 pub mod Chains
 pub mod PollerCalls
+pub mod Retiring
 pub mod Counting
 pub mod Handles
 pub mod Lives

@@ -23,7 +23,7 @@ use Rattle.conn_service.specs.Services.{ServiceState}
 use Rattle.shared_routes.specs.Known.{KnownState}
 use Rattle.shared_supply.specs.Calls.{OffersIn}
 use Rattle.shared_supply.specs.Workers.{Worker}
-use Rattle.worker_connections.specs.Chains.{Deed, Makes, MakesAll, Run, RunState}
+use Rattle.worker_connections.specs.Chains.{Deed, RetiredDue, Makes, MakesAll, Run, RunState}
 use Rattle.worker_connections.specs.EachAct.{EachActOf}
 
 -- what a worker publishes through, what it knows of the routes, and whether it drains
@@ -96,9 +96,12 @@ module _ (group : ℕ → GroupId) (seen : Sights) where
   PublishesIn act old supply new supply' = Publishes old.client.conn.latest act (publisher_of supply) (publisher_of supply')
 
 module _ {T : Type 0} (group : ℕ → GroupId) (seen : Sights) (counts : T → Counts) (given accepted : T → Option (List ℕ)) where
-  -- **What was accepted was published**: at each deed of the run, all that the ports of a worker accepted came into them by the acts of a round, one after the other; any other
-  -- deed leaves the ports as they are (`Makes`)
+  -- **What was accepted was published**: at each deed of the run, all that the ports of a worker accepted came into them by the acts of a round, one after the other; where
+  -- sessions are retired (`retiring`), and at any other deed (`Makes`), the ports stay as they are
   pub record IsPublishedBy (run : Run T) : Type 0 where
     pub published : (these those : List (Deed T)) (deed : Deed T) (old new : RunState T) → run.deeds ≡ these ++ (deed ∷ those)
         → MakesAll group seen counts given accepted these run.first old → Makes group seen counts given accepted deed old new
         → EachActOf group seen counts given accepted (PublishesIn group seen) deed old new
+    pub retiring : (these those : List (Deed T)) (now : ℕ) (old new : RunState T) → run.deeds ≡ these ++ (RetiredDue now ∷ those)
+        → MakesAll group seen counts given accepted these run.first old → Makes group seen counts given accepted (RetiredDue now) old new
+        → new.supply.ports ≡ old.supply.ports

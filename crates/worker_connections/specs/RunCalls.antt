@@ -1,4 +1,4 @@
--- What the connections of a worker's run ask of its supply, call by call.
+-- What a worker's run asks of its supply, call by call.
 use Rattle.std.specs.Prelude.{◌≡◌, ◌⊎◌, ℕ, List, [], ◌∷◌, ◌++◌, Option, Some}
 use Rattle.transport.specs.declared.counts.Counts.{Counts}
 use Rattle.mqtt_packet.specs.declared.packet.Packet.{Packet}
@@ -20,7 +20,8 @@ use Rattle.conn_service.specs.declared.served.Served.{Served}
 use Rattle.shared_supply.specs.Calls.{Calls}
 use Rattle.shared_supply.specs.Workers.{Worker, Begins, Leaves, is_visiting}
 use Rattle.worker_connections.specs.Cells.{InCell}
-use Rattle.worker_connections.specs.Chains.{Deed, MadeRound, LeavesCell, Makes, Run, RunState}
+use Rattle.worker_connections.specs.Chains.{Deed, MadeRound, RetiredDue, LeavesCell, Makes, Run, RunState}
+use Rattle.worker_connections.specs.Retiring.{AreOfRetiring}
 
 module _ {T : Type 0} (group : ℕ → GroupId) (seen : Sights) where
   -- the calls of a step of the connection at this moment, by which these packets are sent: each message that they hand out is in one of these packets, or is discarded, any other message that they
@@ -65,9 +66,10 @@ module _ {T : Type 0} (group : ℕ → GroupId) (seen : Sights) (counts : T → 
   AreOfRound acts how supply calls supply' before after =
       (service behind : ServiceState PlaceState T) × (before ≡ Some service) × AreOfActs acts service supply calls behind supply' × LeavesCell how behind after
 
-  -- those of a deed, which are those of its round, where it is one
+  -- those of a deed, which are those of its round, where it is one, or of its visit, where sessions were retired in one
   abbrev pub AreOfDeed : Deed T → RunState T → List (SupplyCall PlaceState) → RunState T → Type 0
   AreOfDeed (MadeRound cell now acts how) old calls new = InCell old.cells cell (AreOfRound acts how old.supply calls new.supply) new.cells
+  AreOfDeed (RetiredDue now) old calls new = AreOfRetiring group seen old.supply calls new.supply
   AreOfDeed _ old calls new = calls ≡ []
 
   -- those of these deeds, one after the other
@@ -77,6 +79,6 @@ module _ {T : Type 0} (group : ℕ → GroupId) (seen : Sights) (counts : T → 
       (mid : RunState T) × (these those : List (SupplyCall PlaceState)) × (calls ≡ these ++ those)
       × Makes group seen counts given accepted deed old mid × AreOfDeed deed old these mid × AreOfDeeds deeds mid those new
 
-  -- **The calls of a run**: all that its connections asked of the supply, one after the other, by the acts of its rounds
+  -- **The calls of a run**: all that its connections asked of the supply, by the acts of its rounds, and those by which the worker retired sessions, one after the other
   abbrev pub AreCallsOf : Run T → List (SupplyCall PlaceState) → Type 0
   AreCallsOf run calls = AreOfDeeds run.deeds run.first calls run.last

@@ -27,6 +27,7 @@ use Rattle.worker_connections.specs.Arrivals.{ArrivedState, IsWatched, opening_a
 use Rattle.worker_connections.specs.Chains.{RunState}
 use Rattle.worker_connections.specs.PollerCalls.{PollerCall, Register, Close, with_call}
 use Rattle.worker_connections.specs.Counting.{counted, counts_of, none_served}
+use Rattle.worker_connections.specs.Retiring.{RetiresDue}
 use Rattle.worker_connections.specs.Sweeping.{KeepsMoment}
 
 -- the number of the connection in the first cell, from which on those in the others have theirs; the end of the channel, the cells with the connections that are open, the counts of
@@ -101,6 +102,10 @@ pub record Rounds {T : Type 0} (old new : ConnectionsState T) : Type 0 where
   pub stays : StaysOf old new
   pub keeps : KeepsMoment old.sweeps new.sweeps
   pub count : length new.cells ≡ length old.cells
+
+-- the sessions that the desk hands out as over at the worker's moment are retired, and nothing else is done
+abbrev pub RetiresAll : {T : Type 0} → (ℕ → GroupId) → Sights → ConnectionsState T → ConnectionsState T → Type 0
+RetiresAll group seen old new = RetiresDue group seen old.supply old.sweeps.latest new.supply × (new ≡ record old { supply = new.supply })
 
 -- the end mark was received, and no connection is open
 pub record IsDone {T : Type 0} (connections : ConnectionsState T) : Type 0 where

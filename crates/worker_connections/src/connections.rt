@@ -9,7 +9,7 @@ ghost use Rattle.shared_supply.specs.Workers.{Begins as BeginsVisit, Leaves as L
 ghost use Rattle.worker_connections.specs.Chains.{HasRunTo, OwesNothing};
 ghost use Rattle.worker_connections.specs.PollerCalls.{Wait as WaitCall, HasNoCalls, with_call};
 ghost use Rattle.worker_connections.specs.Handles.{IsUnused};
-ghost use Rattle.worker_connections.specs.Serving.{AreCounted, AreFresh, GoesBy, IsDone, Rounds, StaysOf, TellsCell, live, round_of, run_of, wakes_of, with_wakes};
+ghost use Rattle.worker_connections.specs.Serving.{AreCounted, AreFresh, GoesBy, IsDone, RetiresAll, Rounds, StaysOf, TellsCell, live, round_of, run_of, wakes_of, with_wakes};
 ghost use Rattle.worker_connections.specs.Members.{HasTaker, TakesIn as WouldTake, one_called_if};
 ghost use Rattle.worker_bells.specs.Wishing.{IsWished};
 ghost use Rattle.worker_connections.specs.Sweeping.{AreTicked, Begins, HasGone, IsInTime, Notes, WaitsInTime, looked, sweep_period};
@@ -22,6 +22,7 @@ use crate::handle::WorkerHandle;
 use crate::notice::Tallies;
 use crate::noting::{note_held, note_interest};
 use crate::poller::Poller;
+use crate::retiring::retire_in_visit;
 use crate::returned::Returned;
 use crate::served::ServedCounts;
 use crate::sweeps::Sweeps;
@@ -151,6 +152,14 @@ impl<'a, 'g, B: Broker, N: HistoryName, T: Transport + Drop, Q: Poller<T>, R: Wa
         }
         self.sweeps.begin(self.table.len());
         true
+    }
+
+    /// Retires the sessions whose time is over at the worker's moment, unless the gate is shut: so they end also where no connection is there that ticks.
+    pub fn retire_due(&mut self)
+        ensures goes { Rounds self.old self.new }
+        ensures retired { RetiresAll B.group B.Seen.Witness self.old self.new }
+    {
+        retire_in_visit(&mut self.supply, self.sweeps.latest);
     }
 
     /// For how many milliseconds at most a worker may wait until its connections are to go on.

@@ -16,6 +16,7 @@ mod laws;
 mod notice;
 mod noting;
 mod poller;
+mod retiring;
 mod returned;
 mod round_notes;
 mod served;

@@ -34,7 +34,11 @@ pub(crate) fn counts_of(accepted: u64, acknowledged: u64, held: u64) -> Counts {
 }
 
 /// A client joins the group, publishes a job, and is handed it.
-fn be_handed_a_job(stream: &mut TcpStream, alloc: Global, connect: &[u8]) -> Result<(), Wrong> {
+pub(crate) fn be_handed_a_job(
+    stream: &mut TcpStream,
+    alloc: Global,
+    connect: &[u8],
+) -> Result<(), Wrong> {
     say(stream, alloc, connect, &frames::CONNACK)?;
     say(stream, alloc, &frames::SUBSCRIBE, &frames::SUBACK)?;
     say(stream, alloc, &frames::PUBLISH, &frames::PUBACK)?;

@@ -1,7 +1,7 @@
-//! A broker whose sessions are all over by time while nobody is connected.
+//! Sessions that are over by time while nobody is connected.
 use crate::day::{Counts, Day, Listener, live};
 use crate::link::{open, say};
-use crate::loopback::clients::counts_of;
+use crate::loopback::clients::{be_handed_a_job, counts_of};
 use crate::loopback::frames;
 use crate::wrong::Wrong;
 use std::alloc::Global;
@@ -84,6 +84,43 @@ fn fill<R: Net<Listener = TcpListener, Stream = TcpStream> + Clock>(
         say(&mut stream, alloc, &subscribe(group), &frames::SUBACK)?;
     }
     Ok(())
+}
+
+/// A CONNECT of a member, whose session lives for a second after its connection; and how many milliseconds go by then.
+const CONNECT_FOR_A_SECOND: [u8; 22] =
+    *b"\x10\x14\x00\x04MQTT\x05\x00\x00\x3C\x05\x11\x00\x00\x00\x01\x00\x02w1";
+
+const ALONE: u64 = 1_500;
+
+const PORT_ALONE: u16 = 18_841;
+
+/// A member goes without a word while it holds a job, and nobody comes any more. Its session ends in its time all the same: the broker reports the job as given back, and not as held.
+#[derive(Drop)]
+struct Alone;
+
+impl Day for Alone {
+    fn broker(&self) -> Listener {
+        Listener::at(PORT_ALONE, 2)
+    }
+
+    fn pass<R: Net<Listener = TcpListener, Stream = TcpStream> + Clock>(
+        &self,
+        rt: &R,
+        alloc: Global,
+        _closes: &AtomicBool,
+    ) -> Result<Counts, Wrong> {
+        let mut member = open(rt, PORT_ALONE)?;
+        be_handed_a_job(&mut member, alloc, &CONNECT_FOR_A_SECOND)?;
+        drop(member);
+        thread::sleep(rt, Duration::from_millis(ALONE));
+        Ok(counts_of(1, 0, 0))
+    }
+}
+
+#[test]
+fn a_job_is_given_back_while_nobody_is_connected(rt: HostRuntime) {
+    let night = live(&rt, rt.alloc(), &Alone);
+    assert_eq!(&rt; night.is_as_seen(rt.alloc()), Ok(()));
 }
 
 #[test]
