@@ -14,7 +14,7 @@ use Rattle.member_window.specs.Marks.{Mark}
 use Rattle.member_window.specs.Transcript.{IsLegalFrom}
 use Rattle.member_window.specs.Runs.{window_state}
 use Rattle.conn_rules.specs.Connecting.{is_served, terms_of}
-use Rattle.conn_rules.specs.declared.limits.ClientLimits.{ClientLimits}
+use Rattle.conn_rules.specs.declared.client_limits.ClientLimits.{ClientLimits}
 use Rattle.conn_rules.specs.declared.terms.Terms.{Terms}
 use Rattle.conn_supply.specs.declared.reply.Then.{Then}
 use Rattle.conn_supply.specs.SupplyCalls.{SupplyCall}

@@ -11,7 +11,7 @@ use Rattle.member_window.specs.Transcript.{IsLegalFrom}
 use Rattle.member_window.specs.Runs.{window_state}
 use Rattle.session_desk.specs.declared.session.Session.{Session}
 use Rattle.conn_rules.specs.Connecting.{is_served, terms_of}
-use Rattle.conn_rules.specs.declared.limits.ClientLimits.{ClientLimits}
+use Rattle.conn_rules.specs.declared.client_limits.ClientLimits.{ClientLimits}
 use Rattle.conn_supply.specs.declared.reply.Then.{Then}
 use Rattle.conn_supply.specs.SupplyCalls.{SupplyCall}
 use Rattle.conn_engine.specs.declared.input.Input.TheVariants as inputs

@@ -9,7 +9,7 @@ use std::io;
 use std::net::{Ipv4Addr, Net};
 use std::random::RandomSource;
 use std::time::Instant;
-use tcp_edge::{OpenError as ListenError, TcpSource};
+use tcp_edge::{ListenError, TcpSource};
 use thiserror::Error;
 use transport::{Arrival, Source};
 

@@ -8,7 +8,7 @@ use Rattle.broker_log.proofs.Logging.{begun_nothing}
 use Rattle.arguments.specs.declared.service.ServeOptions.{ServeOptions}
 use Rattle.arguments.specs.declared.service.ServeUntil.{ServeUntil}
 use Rattle.arguments.specs.declared.service.ServeUntil.TheVariants.{Stdin, Killed}
-use Rattle.conn_rules.specs.declared.limits.ClientLimits.{ClientLimits}
+use Rattle.conn_rules.specs.declared.client_limits.ClientLimits.{ClientLimits}
 use Rattle.text_io.specs.declared.error.RunError.{RunError}
 use Rattle.text_io.specs.declared.error.RunError.TheVariants.{Memory}
 use Rattle.program.specs.Ending.{HasRead, IsLoggedFor, IsLoggedUnread, IsServedWith}

@@ -5,7 +5,7 @@ use Rattle.group_jobs.specs.declared.fate.Fate.{Fate}
 use Rattle.group_jobs.specs.Settled.{fates, runs_of}
 use Rattle.group_jobs.specs.Stamps.{Held, job_of}
 use Rattle.group_jobs.specs.declared.ledger.Ledger.{Ledger}
-use Rattle.shared_ledger.specs.declared.share.Share.{Share}
+use Rattle.shared_ledger.specs.declared.share.LedgerShare.{LedgerShare}
 use Rattle.group_queue.specs.Places.{PlaceState, GatherAnswers, IsSamePlace, SettlesHeld}
 
 -- how many runs a place's docket has, of whatever fate, or 2^64 - 1 where they are more
@@ -16,7 +16,7 @@ runs_at place = min (sum_by (λ fate. length (runs_of fate place.docket.settled)
 abbrev pub IsDue : ℕ → ℕ → Type 0
 IsDue before after = (before < after) × (after % 64 ≡ 0)
 
-module _ (saw : List Ledger → List Share → Type 0) where
+module _ (saw : List Ledger → List LedgerShare → Type 0) where
   -- the place gathered, and what it had settled is in the group's ledger; or that was missed, as an allocation failed, and the place is as it was
   abbrev pub Gathers : PlaceState → (is_missed : Bool) → PlaceState → Type 0
   Gathers old false new = GatherAnswers saw old (Ok true) new

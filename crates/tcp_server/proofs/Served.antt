@@ -17,7 +17,7 @@ use Rattle.broker_groups.specs.Brokers.{no_group}
 use Rattle.broker_groups.specs.Openings.{IsBrokerOpened, named_by, or_none}
 use Rattle.group_jobs.specs.declared.report.Report.{Report}
 use Rattle.group_queue.specs.declared.error.FinishError.{FinishError}
-use Rattle.conn_rules.specs.declared.limits.ClientLimits.{ClientLimits}
+use Rattle.conn_rules.specs.declared.client_limits.ClientLimits.{ClientLimits}
 use Rattle.tcp_server.specs.Lines.{report_of, EndsBy}
 use Rattle.tcp_server.specs.Reporting.{AreReports, AreReportsAt, HaveCapacity}
 use Rattle.tcp_server.specs.Serving.{WritesAll, BeginsToWrite, EndsUnreported, IsServed}

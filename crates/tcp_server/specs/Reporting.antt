@@ -7,7 +7,7 @@ use Rattle.group_jobs.specs.declared.report.Report.{Report}
 use Rattle.group_queue.specs.Ports.{GroupId}
 use Rattle.group_queue.specs.declared.finish.Unfinished.{Unfinished}
 use Rattle.group_queue.specs.declared.witness.Nobody.{Nobody}
-use Rattle.conn_rules.specs.declared.limits.ClientLimits.{ClientLimits}
+use Rattle.conn_rules.specs.declared.client_limits.ClientLimits.{ClientLimits}
 use Rattle.tcp_edge.specs.Sockets.{SocketState}
 use Rattle.tcp_server.specs.declared.client_stream.ClientStream.{ClientStream}
 use Rattle.worker_connections.specs.declared.served.ServedCounts.{ServedCounts}

@@ -7,7 +7,7 @@ use Rattle.text_io.specs.declared.error.DeviceFault.{DeviceFault}
 use Rattle.text_io.specs.declared.error.RunError.{RunError}
 use Rattle.text_io.specs.declared.error.RunError.TheVariants.{ReadFailed, TooManyReads, WriteFailed, Network, UsersUnread, NoRandomBytes, Memory, TooFewDescriptors, Unfinished, Line, UsersLine}
 use Rattle.mqtt_topic.specs.Names.{Share}
-use Rattle.conn_rules.specs.declared.limits.ClientLimits.{ClientLimits}
+use Rattle.conn_rules.specs.declared.client_limits.ClientLimits.{ClientLimits}
 use Rattle.tcp_edge.specs.Sources.{IsPortFor}
 use Rattle.tcp_server.specs.Reporting.{AreReports, AreReportsAt}
 

@@ -7,17 +7,20 @@ ghost use Rattle.tcp_server.specs.Reporting.{AreReportsAt, HaveCapacity};
 use crate::beside::{BesideMetrics, Metrics};
 use crate::drain::Drain;
 use crate::lobby::Lobby;
+use crate::network::TcpNetwork;
 use crate::outcome::{Reported, report_outcome};
 use crate::serving::ServingEnd;
-use crate::setup::SocketSetup;
+use crate::setup::SocketPollers;
 use crate::watching::{DrainSettings, Watching};
 use broker_groups::Broker;
 use broker_log::{Level, Log};
 use call_history::HistoryName;
+use conn_rules::ClientLimits;
 use group_queue::Nobody;
 use mqtt_topic::Routes;
 use std::alloc::Global;
 use std::io::Read;
+use std::marker::PhantomData;
 use std::net::Net;
 use std::rt::Clock as SystemClock;
 use std::sync::Wait;
@@ -26,9 +29,10 @@ use std::thread::Threads;
 use tcp_edge::Until;
 use text_io::RunError;
 use threaded_broker::{Closers, OpenBroker, serve};
-use worker_pool::Closer;
+use worker_pool::{Closer, PoolSetup};
 
-/// Serves the connections of a source until the input ends, drains, sets this flag, and ends the broker. Meanwhile metrics are told, where there are any.
+/// Serves the connections of a lobby until the input ends, drains, sets this flag, and ends the broker. Meanwhile metrics are told, where there are any. What has lifetimes of its own
+/// comes here one by one, and is put together here.
 ///
 /// # Errors
 ///
@@ -44,20 +48,21 @@ pub(crate) fn attend<
     alloc: Global,
     broker: OpenBroker<'_, B, N>,
     groups: &Routes,
+    limits: ClientLimits,
+    pollers: SocketPollers<'x, R>,
+    lobby: Lobby<'x, R>,
+    metrics: Option<Metrics<'x, R>>,
     draining: DrainSettings,
     ends: &'x AtomicBool,
     drain: &'x Drain,
-    metrics: Option<Metrics<'x, R>>,
     log: &'x Log,
-    setup: SocketSetup<'_, R>,
-    lobby: Lobby<'x, R>,
     closers: Closers<'_, B>,
     stopper: Closer<'_, B>,
     input: &mut I,
 ) -> Result<Reported, RunError>
     requires capacity { HaveCapacity B.group (B.group 0).capacity }
-    requires setup { length setup.unused_pollers.items ≡ broker.workers }
-    ensures reported { IfOk result (λ reported. AreReportsAt reported.end (B.group 0).capacity broker.entry.workers setup.entry.limits groups.now reported.text.items) }
+    requires pollers { length pollers.unused_pollers.items ≡ broker.workers }
+    ensures reported { IfOk result (λ reported. AreReportsAt reported.end (B.group 0).capacity broker.entry.workers limits groups.now reported.text.items) }
     ensures read { IfOk result (λ reported. reported.end ≡ Ok ServingEnd.Ended → IsAtEnd (I.remaining input.new)) }
     ensures cause { IfErr result (λ error. error ≡ Memory) }
 {
@@ -70,15 +75,24 @@ pub(crate) fn attend<
         alloc,
         log,
         is_read: false,
+        input: PhantomData,
     };
-    let source = Until::new(BesideMetrics { lobby, metrics }, ends);
+    let SocketPollers {
+        unused_pollers,
+        alarms,
+    } = pollers;
+    let setup = PoolSetup::<TcpNetwork<'x, R>> {
+        source: Until::new(BesideMetrics { lobby, metrics }, ends),
+        unused_pollers,
+        alarms,
+        limits,
+    };
     let Ok(outcome) = serve(
         rt,
         alloc,
         broker,
         groups.shares(),
         setup,
-        source,
         closers,
         &mut watching,
         input,

@@ -14,6 +14,7 @@ mod listeners;
 mod lobby;
 mod logging;
 mod metering;
+mod network;
 mod outcome;
 mod reporting;
 mod serving;

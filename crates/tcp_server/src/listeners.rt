@@ -5,7 +5,7 @@ ghost use Rattle.tcp_server.specs.Refusals.{open_fault, metrics_fault};
 use metrics::{MetricsServer, OpenError};
 use std::alloc::Global;
 use std::net::{Ipv4Addr, Net};
-use tcp_edge::{OpenError as ListenError, TcpSource};
+use tcp_edge::{ListenError, TcpSource};
 use text_io::DeviceFault;
 
 /// An address of this machine, and the ports of it at which a broker listens.

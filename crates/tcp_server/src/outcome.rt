@@ -11,7 +11,7 @@ use group_queue::Nobody;
 use std::alloc::Global;
 use text_io::RunError;
 use threaded_broker::Outcome;
-use worker_pool::SourceEnd;
+use worker_pool::{Network, SourceEnd};
 
 /// What is written of a broker that has ended, and how it ends.
 #[derive(Drop)]
@@ -28,9 +28,9 @@ pub struct Reported {
 /// # Errors
 ///
 /// [`RunError::Memory`].
-pub fn report_outcome<B: Broker<Seen = Nobody>, N: HistoryName, S: Drop, Q: Drop>(
+pub fn report_outcome<B: Broker<Seen = Nobody>, N: HistoryName, W: Network>(
     alloc: Global,
-    outcome: Outcome<'_, B, N, S, Q>,
+    outcome: Outcome<'_, B, N, W>,
     is_read: bool,
 ) -> Result<Reported, RunError>
     ensures lines { IfOk result (λ reported. reported.text.items ≡ lines_of outcome.entry.shares.items (map report_of outcome.entry.ended.answers.items)) }

@@ -18,7 +18,7 @@ use crate::lobby::Lobby;
 use crate::logging::BrokerLog;
 use crate::outcome::Reported;
 use crate::settings::ServeSettings;
-use crate::setup::socket_setup;
+use crate::setup::socket_pollers;
 use crate::watching::DrainSettings;
 use broker_groups::{Broker, BrokerName, BrokerPlace, Opened, Witnessed};
 use broker_log::Log;
@@ -127,21 +127,24 @@ pub fn serve_with<R: Threads + Wait + Net + SystemClock + Sync, I: Read + Send, 
     };
     let line = format!(in alloc; "listening {port}\n");
     let reported = match line {
-        Ok(line) => live::<Brand, R, I, O>(
-            rt,
-            alloc,
-            &gate,
-            seats,
-            opened,
-            settings,
-            groups,
-            lobby,
-            metrics,
-            line.as_bytes(),
-            log,
-            input,
-            output,
-        )?,
+        Ok(line) => {
+            let serving = Serving {
+                settings,
+                groups,
+                log,
+            };
+            let gated = Gated {
+                gate: &gate,
+                seats,
+                opened,
+            };
+            let listening = Listening {
+                lobby,
+                metrics,
+                line: line.as_bytes(),
+            };
+            live::<Brand, R, I, O>(rt, alloc, serving, gated, listening, input, output)?
+        }
         Err(_) => {
             opened.abandon();
             return Err(RunError::Memory);
@@ -175,6 +178,29 @@ fn answer_of(end: Result<ServingEnd, RunError>) -> Result<(), RunError>
     }
 }
 
+/// What is served, and how: the settings, the groups from the start, and the log.
+#[derive(Drop)]
+struct Serving<'x> {
+    settings: ServeSettings,
+    groups: &'x Routes,
+    log: &'x Log,
+}
+
+/// Where a broker listens, and the line by which it says so.
+#[derive(Drop)]
+struct Listening<'x, R> {
+    lobby: Lobby<'x, R>,
+    metrics: Option<MetricsServer>,
+    line: &'x [u8],
+}
+
+/// The groups of a broker behind its gate, and the gate's seats.
+struct Gated<'g> {
+    gate: &'g Gate,
+    seats: Vec<GateSeat>,
+    opened: Opened<'g>,
+}
+
 /// Opens the desk of a broker, serves, and ends it.
 fn live<
     M: BrokerName + Send + Sync,
@@ -184,34 +210,33 @@ fn live<
 >(
     rt: &R,
     alloc: Global,
-    gate: &Gate,
-    seats: Vec<GateSeat>,
-    opened: Opened<'_>,
-    settings: ServeSettings,
-    groups: &Routes,
-    lobby: Lobby<'_, R>,
-    metrics: Option<MetricsServer>,
-    line: &[u8],
-    log: &Log,
+    serving: Serving<'_>,
+    gated: Gated<'_>,
+    listening: Listening<'_, R>,
     input: &mut I,
     output: &mut O,
 ) -> Result<Reported, RunError>
-    requires gate { gate.now ≡ M.gate }
-    requires workers { (1 ≤ settings.workers) × (settings.workers ≤ 64) }
-    requires seats { AreSeatsOf gate.now seats.items × (length seats.items ≡ settings.workers + 3) }
-    requires opened { IsOfBroker M.gate M.group settings.workers opened }
+    requires gate { gated.gate.now ≡ M.gate }
+    requires workers { (1 ≤ serving.settings.workers) × (serving.settings.workers ≤ 64) }
+    requires seats { AreSeatsOf gated.gate.now gated.seats.items × (length gated.seats.items ≡ serving.settings.workers + 3) }
+    requires opened { IsOfBroker M.gate M.group serving.settings.workers gated.opened }
     requires capacity { HaveCapacity M.group (M.group 0).capacity }
-    ensures reported { IfOk result (λ reported. AreReportsAt reported.end (M.group 0).capacity settings.workers settings.limits groups.now reported.text.items) }
-    ensures written { IfOk result (λ reported. Appends (O.contents output.old) (O.contents output.new) line.now) }
+    ensures reported { IfOk result (λ reported. AreReportsAt reported.end (M.group 0).capacity serving.entry.settings.workers serving.entry.settings.limits serving.entry.groups.now reported.text.items) }
+    ensures written { IfOk result (λ reported. Appends (O.contents output.old) (O.contents output.new) listening.entry.line.now) }
     ensures read { IfOk result (λ reported. reported.end ≡ Ok ServingEnd.Ended → IsAtEnd (I.remaining input.new)) }
-    ensures failed { IfErr result (λ error. EndsUnreported line.now error (O.contents output.old) (O.contents output.new)) }
+    ensures failed { IfErr result (λ error. EndsUnreported listening.entry.line.now error (O.contents output.old) (O.contents output.new)) }
 {
-    match OpenedDesk::open(alloc, settings.newcomers) {
+    match OpenedDesk::open(alloc, serving.settings.newcomers) {
         Ok(desk) => live_with::<Witnessed<M, Nobody>, Brand, R, I, O>(
-            rt, alloc, gate, seats, opened, desk, settings, groups, lobby, metrics, line, log,
-            input, output,
+            rt, alloc, serving, gated, desk, listening, input, output,
         ),
         Err(_) => {
+            let Gated {
+                gate: _,
+                seats,
+                opened,
+            } = gated;
+            drop(seats);
             opened.abandon();
             Err(RunError::Memory)
         }
@@ -229,31 +254,39 @@ fn live_with<
 >(
     rt: &'x R,
     alloc: Global,
-    gate: &Gate,
-    seats: Vec<GateSeat>,
-    opened: Opened<'_>,
+    serving: Serving<'x>,
+    gated: Gated<'x>,
     desk: OpenedDesk<BrokerPlace<B>>,
-    settings: ServeSettings,
-    groups: &'x Routes,
-    lobby: Lobby<'x, R>,
-    metrics: Option<MetricsServer>,
-    line: &[u8],
-    log: &'x Log,
+    listening: Listening<'x, R>,
     input: &mut I,
     output: &mut O,
 ) -> Result<Reported, RunError>
-    requires gate { gate.now ≡ B.gate }
+    requires gate { gated.gate.now ≡ B.gate }
     requires desk { desk ≡ N.history }
-    requires workers { (1 ≤ settings.workers) × (settings.workers ≤ 64) }
-    requires seats { AreSeatsOf gate.now seats.items × (length seats.items ≡ settings.workers + 3) }
-    requires opened { IsOfBroker B.gate B.group settings.workers opened }
+    requires workers { (1 ≤ serving.settings.workers) × (serving.settings.workers ≤ 64) }
+    requires seats { AreSeatsOf gated.gate.now gated.seats.items × (length gated.seats.items ≡ serving.settings.workers + 3) }
+    requires opened { IsOfBroker B.gate B.group serving.settings.workers gated.opened }
     requires capacity { HaveCapacity B.group (B.group 0).capacity }
-    ensures reported { IfOk result (λ reported. AreReportsAt reported.end (B.group 0).capacity settings.workers settings.limits groups.now reported.text.items) }
-    ensures written { IfOk result (λ reported. Appends (O.contents output.old) (O.contents output.new) line.now) }
+    ensures reported { IfOk result (λ reported. AreReportsAt reported.end (B.group 0).capacity serving.entry.settings.workers serving.entry.settings.limits serving.entry.groups.now reported.text.items) }
+    ensures written { IfOk result (λ reported. Appends (O.contents output.old) (O.contents output.new) listening.entry.line.now) }
     ensures read { IfOk result (λ reported. reported.end ≡ Ok ServingEnd.Ended → IsAtEnd (I.remaining input.new)) }
-    ensures failed { IfErr result (λ error. EndsUnreported line.now error (O.contents output.old) (O.contents output.new)) }
+    ensures failed { IfErr result (λ error. EndsUnreported listening.entry.line.now error (O.contents output.old) (O.contents output.new)) }
 {
-    let mut seats = seats;
+    let Serving {
+        settings,
+        groups,
+        log,
+    } = serving;
+    let Gated {
+        gate,
+        mut seats,
+        opened,
+    } = gated;
+    let Listening {
+        lobby,
+        metrics,
+        line,
+    } = listening;
     let Ok(broker) = OpenBroker::<B, N>::open(
         rt,
         alloc,
@@ -270,14 +303,13 @@ fn live_with<
         accepting: Closer::take(gate, &mut seats),
         ending: Closer::take(gate, &mut seats),
     };
-    let stopper = Closer::take(gate, &mut seats);
     let ends = AtomicBool::new(false);
     let drain = Drain::new();
+    let stopper = Closer::take(gate, &mut seats);
     let draining = DrainSettings {
         workers: settings.workers,
         seconds: settings.drain,
     };
-    let capacity = settings.capacity as u64;
     let count = usize::from(settings.workers);
     let told = if metrics.is_some() { count } else { 0 };
     let Ok(places) = shared_counts(alloc, told) else {
@@ -286,37 +318,44 @@ fn live_with<
     };
     let broker_log = BrokerLog::of(log, alloc);
     tell_shares(&broker_log, groups);
-    let setup = match socket_setup(
-        rt,
-        alloc,
-        count,
-        settings.limits,
-        &drain,
-        &places,
-        &broker_log,
-    ) {
-        Ok(setup) => setup,
+    let pollers = match socket_pollers(rt, alloc, count, &drain, &places, &broker_log) {
+        Ok(pollers) => pollers,
         Err(error) => {
             broker.abandon();
             return Err(error);
         }
     };
-    let service = MetricsService {
-        rt,
-        alloc,
-        workers: &places,
-        shares: groups.shares(),
-        capacity,
-        turned_away: TurnedAway::NONE,
-    };
     let metrics = match metrics {
-        Some(server) => Some(Metrics { server, service }),
+        Some(server) => Some(Metrics {
+            server,
+            service: MetricsService {
+                rt,
+                alloc,
+                workers: &places,
+                shares: groups.shares(),
+                capacity: settings.capacity as u64,
+                turned_away: TurnedAway::NONE,
+            },
+        }),
         None => None,
     };
     match write_all(output, line) {
         Ok(()) => attend(
-            rt, alloc, broker, groups, draining, &ends, &drain, metrics, log, setup, lobby,
-            closers, stopper, input,
+            rt,
+            alloc,
+            broker,
+            groups,
+            settings.limits,
+            pollers,
+            lobby,
+            metrics,
+            draining,
+            &ends,
+            &drain,
+            log,
+            closers,
+            stopper,
+            input,
         ),
         Err(error) => {
             broker.abandon();

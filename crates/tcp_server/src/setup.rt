@@ -9,36 +9,36 @@ use crate::logging::{BrokerLog, LogPart};
 use crate::metering::MetricsPart;
 use crate::socket_poller::SocketPoller;
 use broker_worker::UnusedPoller;
-use conn_rules::ClientLimits;
 use metrics::SharedCounts;
 use std::alloc::Global;
 use std::net::Net;
 use std::rt::Clock as SystemClock;
 use std::time::Instant;
-use tcp_edge::{Reactor, ReactorError, Socket};
+use tcp_edge::{Alarm, Reactor, ReactorError, Socket};
 use text_io::RunError;
 use worker_bells::share_of;
-use worker_pool::PoolSetup;
 
-/// A reactor with a clock and an alarm for each worker.
-pub(crate) type SocketSetup<'a, R> = PoolSetup<Socket<ClientStream>, SocketPoller<'a, R>>;
+/// Where the workers of a broker wait, in the order of their numbers: each at a reactor with a clock, which its alarm wakes.
+#[derive(Drop)]
+pub(crate) struct SocketPollers<'a, R: SystemClock> {
+    pub(crate) unused_pollers: Vec<UnusedPoller<Socket<ClientStream>, SocketPoller<'a, R>>>,
+    pub(crate) alarms: Vec<Alarm>,
+}
 
-/// What so many workers need, whose clocks begin now, and who drain together. Each puts what it counts into the place of its number, where there is one, and all say what they do to this log.
+/// Those of so many workers, whose clocks begin now, and who drain together. Each puts what it counts into the place of its number, where there is one, and all say what they do to this log.
 ///
 /// # Errors
 ///
 /// [`RunError::TooFewDescriptors`], and [`RunError::Memory`] where an allocation fails, or the system refuses for another reason.
-pub(crate) fn socket_setup<'a, R: Net + SystemClock>(
+pub(crate) fn socket_pollers<'a, R: Net + SystemClock>(
     rt: &'a R,
     alloc: Global,
     count: usize,
-    limits: ClientLimits,
     drain: &'a Drain,
     places: &'a [SharedCounts],
     log: &'a BrokerLog<'a>,
-) -> Result<SocketSetup<'a, R>, RunError>
-    ensures count { IfOk result (λ setup. length setup.unused_pollers.items ≡ count) }
-    ensures limits { IfOk result (λ setup. setup.limits ≡ limits) }
+) -> Result<SocketPollers<'a, R>, RunError>
+    ensures count { IfOk result (λ pollers. length pollers.unused_pollers.items ≡ count) }
     ensures cause { IfErr result (λ error. (error ≡ Memory) ⊎ (error ≡ TooFewDescriptors)) }
 {
     let Ok(start) = Instant::now(rt) else {
@@ -62,9 +62,8 @@ pub(crate) fn socket_setup<'a, R: Net + SystemClock>(
         unused_pollers.push(UnusedPoller::new(poller))?;
         alarms.push(alarm)?;
     }
-    Ok(PoolSetup {
+    Ok(SocketPollers {
         unused_pollers,
         alarms,
-        limits,
     })
 }

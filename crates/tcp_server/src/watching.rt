@@ -7,6 +7,7 @@ use broker_groups::Broker;
 use broker_log::{Level, Log};
 use std::alloc::Global;
 use std::io::{ErrorKind, Read};
+use std::marker::PhantomData;
 use std::rt::Clock as SystemClock;
 use std::sync::atomic::{AtomicBool, Ordering};
 use std::thread;
@@ -50,7 +51,7 @@ pub(crate) struct DrainSettings {
 
 /// Reads the input to its end, has the broker drain, and closes it soon after that.
 #[derive(Drop)]
-pub(crate) struct Watching<'a, B: Broker, R> {
+pub(crate) struct Watching<'a, B: Broker, R, I> {
     pub(crate) rt: &'a R,
     pub(crate) stopper: Closer<'a, B>,
     pub(crate) ends: &'a AtomicBool,
@@ -60,11 +61,15 @@ pub(crate) struct Watching<'a, B: Broker, R> {
     pub(crate) log: &'a Log,
     /// Whether the input has ended, and did not fail.
     pub(crate) is_read: bool,
+    pub(crate) input: PhantomData<I>,
 }
 
-impl<'a, B: Broker, R: SystemClock, I: Read> Watch<I> for Watching<'a, B, R> {
+impl<'a, B: Broker + Send + Sync, R: SystemClock + Sync, I: Read + Send> Watch
+    for Watching<'a, B, R, I> {
     ghost use Rattle.std.specs.Prelude.{◌≡◌, true};
     ghost use Rattle.std.specs.Io.KnownBytes.{IsAtEnd};
+
+    type Input = I;
 
     ghost has_watched = { λ old new before after. new.is_read ≡ true → IsAtEnd (I.remaining after) };
 

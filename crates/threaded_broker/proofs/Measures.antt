@@ -15,7 +15,7 @@ use Rattle.group_jobs.specs.Stamps.{Held, job_of}
 use Rattle.group_jobs.specs.Dockets.{Kept}
 use Rattle.shared_ledger.specs.Giving.{times_in}
 use Rattle.shared_ledger.specs.Givers.{GiverState}
-use Rattle.shared_ledger.specs.declared.share.Share.{Share}
+use Rattle.shared_ledger.specs.declared.share.LedgerShare.{LedgerShare}
 use Rattle.group_queue.specs.declared.posted.Posted.{Posted}
 use Rattle.group_queue.specs.declared.view.Bag.{Bag}
 use Rattle.group_queue.specs.declared.view.View.{View}
@@ -173,7 +173,7 @@ settled_one Discarded Acknowledged job other old new does = let same = ap (λ li
 settled_one Discarded Refused job other old new does = let same = ap (λ list. count_of other (jobs_of list.runs)) (does.others Refused (λ e. cc)) in omega (arith, same)
 
 -- what it settled is in its docket, or in what it gave to its group's ledger
-gathered : (saw : List Ledger → List Share → Type 0) (old new : PlaceState) (is_missed : Bool) → Gathers saw old is_missed new → DoesMore old new never never never by_none
+gathered : (saw : List Ledger → List LedgerShare → Type 0) (old new : PlaceState) (is_missed : Bool) → Gathers saw old is_missed new → DoesMore old new never never never by_none
 gathered saw old new true does = stays old new (does.1 ∙ ap (λ giver. record old { docket = new.docket; giver = giver }) does.0.0) (λ fate. ap (λ (docket : Kept). settled_as fate docket.settled) does.0.1)
 gathered saw old new false does = record {
   group = ap (λ (p : PlaceState). p.group) does.1;
@@ -202,7 +202,7 @@ both_more old mid new firsts agains given settled one other = record {
   fates = λ fate job. omega (arith, one.fates fate job, other.fates fate job);
 }
 
-settled_more : (saw : List Ledger → List Share → Type 0) (envelope : Held) (its : Fate) (is_missed : Bool) (old new : PlaceState) → SettlesAndGathers saw old envelope its is_missed new
+settled_more : (saw : List Ledger → List LedgerShare → Type 0) (envelope : Held) (its : Fate) (is_missed : Bool) (old new : PlaceState) → SettlesAndGathers saw old envelope its is_missed new
     → DoesMore old new never never never (λ fate job. only_by fate its (once_as job envelope))
 settled_more saw envelope its is_missed old new does =
     let others = does.settles.others in

@@ -24,7 +24,7 @@ use Rattle.broker_groups.specs.Answers.{Sights}
 use Rattle.broker_groups.specs.Naming.{AreNewPlacesOf, once_at}
 use Rattle.broker_groups.specs.Outs.{HasOut}
 use Rattle.broker_groups.proofs.Rows.{All-at}
-use Rattle.conn_rules.specs.declared.limits.ClientLimits.{ClientLimits}
+use Rattle.conn_rules.specs.declared.client_limits.ClientLimits.{ClientLimits}
 use Rattle.conn_supply.specs.SupplyCalls.{SupplyCall}
 use Rattle.shared_desk.specs.Histories.{TakesEach}
 use Rattle.shared_supply.specs.Calls.{Calls}

@@ -33,7 +33,7 @@ use Rattle.shared_supply.specs.Calls.{Calls}
 use Rattle.shared_supply.specs.Workers.{Worker, Begins, Leaves, is_visiting}
 use Rattle.worker_connections.specs.Arrivals.{opening_at}
 use Rattle.worker_connections.specs.Cells.{Opens}
-use Rattle.worker_connections.specs.Chains.{Deed, Opened, Closed, Allowed, MadeRound, Passed, Called, Notified, NotifiedAll, Waited, IsWholeRun, LeavesCell, Makes, Run, RunState}
+use Rattle.worker_connections.specs.Chains.{Deed, Opened, Closed, Allowed, MadeRound, Passed, RetiredDue, Called, Notified, NotifiedAll, Waited, IsWholeRun, LeavesCell, Makes, Run, RunState}
 use Rattle.worker_connections.specs.RunCalls.{AreOfAct, AreOfActs, AreOfDeed, AreOfDeeds, AreOfFailure, AreOfStep, AreOfLastStep, AreCallsOf}
 use Rattle.final_report.specs.DeskPlaces.{worth_if, places_in, places_out}
 use Rattle.threaded_broker.specs.Callers.{DeskCallerState}
@@ -224,6 +224,12 @@ module _ (measure : PlaceState → ℕ) where
           let after : has_at made.after ≡ 0 = ap has_at made.becomes.1 in
           let set = set_cell old.cells new.cells cell made.before made.after made.has made.is in
           aside calls old new none (ap (λ (s : RunState T). s.supply.desk) does.1) (omega (arith, set, before, after)) within
+      done (RetiredDue now) calls old new does its within =
+          let begun = subst AreWithin (sym its.begins.desk) within in
+          let balance = step_balances calls its.begun its.mid [] [] its.made its.places begun in
+          let from = subst (λ (caller : DeskCallerState). Balances measure caller 0 0 (sum_by gain calls) its.mid.desk) its.begins.desk balance in
+          let whole = subst (λ (caller : DeskCallerState). Balances measure old.supply.desk 0 0 (sum_by gain calls) caller) (sym (ap (λ (w : Worker). w.desk) its.leaves.becomes)) from in
+          (omega (arith, whole.0, ap (λ (s : RunState T). has_all s.cells) does.1), whole.1)
       done (Called slot) calls old new does none within = aside calls old new none (ap (λ (s : RunState T). s.supply.desk) does) (ap (λ (s : RunState T). has_all s.cells) does) within
       done (Notified most others) calls old new does none within = aside calls old new none (ap (λ (s : RunState T). s.supply.desk) does.1) (ap (λ (s : RunState T). has_all s.cells) does.1) within
       done NotifiedAll calls old new does none within = aside calls old new none (ap (λ (s : RunState T). s.supply.desk) does) (ap (λ (s : RunState T). has_all s.cells) does) within

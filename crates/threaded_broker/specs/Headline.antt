@@ -12,7 +12,7 @@ use Rattle.group_queue.specs.declared.finish.Unfinished.{Unfinished}
 use Rattle.group_queue.specs.Ports.{GroupId, PortState}
 use Rattle.broker_groups.specs.Answers.{Sights}
 use Rattle.broker_groups.specs.Naming.{AreNewPlacesOf}
-use Rattle.conn_rules.specs.declared.limits.ClientLimits.{ClientLimits}
+use Rattle.conn_rules.specs.declared.client_limits.ClientLimits.{ClientLimits}
 use Rattle.conn_supply.specs.SupplyCalls.{SupplyCall}
 use Rattle.worker_connections.specs.declared.served.ServedCounts.{ServedCounts}
 use Rattle.worker_connections.specs.Chains.{KeepsReceiveMaximum}
@@ -55,8 +55,9 @@ module _ {T : Type 0} (group : ℕ → GroupId) (seen : Sights) (counts : T → 
   -- a refused message went to nobody else (`refused_for_good`), nor did a discarded one (`discarded_for_good`), and the report gives each accepted message exactly one fate
   -- (`one_fate`), which it had (`what_happened`). No connection had more unacknowledged PUBLISH packets than its Receive Maximum. Each of those calls put a place into the new desk, or was made in the run of one
   -- worker, once (`opened`, `taken_in` and `each_call_once`): so no session and no place came out of the desk but by a deed. And each place that the desk had in the end (`promises.0`) did
-  -- what the calls of the runs did there, and nothing else (`came_of_calls`): it was handed a message, gave it back, or settled it, as often as a step of a connection did that at this
-  -- place; the messages that the calls of a step hand out are those of its PUBLISH packets with DUP 0, in their order, and what they settle is what the PUBACK came for (`calls_are`). The report of a slot is that of the share that is told at its place: to its group
+  -- what the calls of the runs did there, and nothing else (`came_of_calls`): it was handed a message, gave it back, or settled it, as often as a call of a run did that at this
+  -- place; the messages that the calls of a step hand out are those of its PUBLISH packets with DUP 0, in their order, and what they settle is what the PUBACK came for (`calls_are`); those by
+  -- which a worker retires sessions hand out and settle nothing. The report of a slot is that of the share that is told at its place: to its group
   -- each worker offered what matches that share, from when it knew it. That nothing is handed out after close is said by the token of the drained gate
   pub record KeepsTheHeadline {W : Type 0} (workers : ℕ) (limits : ClientLimits) (came : List T) (before after : DeskCallerState) (shares : List Share) (answers : List (Result Report (Unfinished W)))
       (strangers : List Held) (served : List ServedCounts) (poller_calls : List (Option (List (PollerCall T)))) : Type 0 where

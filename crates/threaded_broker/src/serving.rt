@@ -28,9 +28,8 @@ use std::alloc::Global;
 use std::rt::Clock as SystemClock;
 use std::sync::Wait;
 use std::thread::Threads;
-use transport::{Source, Transport};
-use worker_connections::{Poller, ServedCounts, WorkerHandle};
-use worker_pool::{Closer, PoolSetup, Pooled, Taken, Unbegun, Watch, run};
+use worker_connections::{ServedCounts, WorkerHandle};
+use worker_pool::{Closer, Network, PoolSetup, Pooled, Taken, Unbegun, Watch, run};
 
 /// Who shuts the gate of a broker.
 #[derive(Drop)]
@@ -42,7 +41,7 @@ pub struct Closers<'a, B: Broker> {
 }
 
 /// What became of a broker that was served to its end.
-pub struct Outcome<'g, B: Broker, N: HistoryName, S, Q> {
+pub struct Outcome<'g, B: Broker, N: HistoryName, W: Network> {
     /// The report of each group, in the order of slots, or why there is none.
     pub ended: Ended<'g, B::Seen>,
     /// The shares that are bound, in the order of their slots.
@@ -50,9 +49,9 @@ pub struct Outcome<'g, B: Broker, N: HistoryName, S, Q> {
     /// How the connections of each worker ended.
     pub served: Vec<ServedCounts>,
     /// Where the connections came from, and how many.
-    pub taken: Taken<S>,
+    pub taken: Taken<W::Source>,
     /// Where the workers waited, which closed all connections.
-    pub pollers: Vec<Q>,
+    pub pollers: Vec<W::Poller>,
     /// The first caller of the desk, which took in those of its workers, and has the whole right to call it.
     pub caller: DeskCaller<BrokerPlace<B>, N>,
     /// Nobody is inside the broker's gate, nor ever will be.
@@ -60,7 +59,7 @@ pub struct Outcome<'g, B: Broker, N: HistoryName, S, Q> {
 }
 
 /// A broker that was served, whose gate is drained.
-pub struct Closed<'g, B: Broker, N: HistoryName, S, Q> {
+pub struct Closed<'g, B: Broker, N: HistoryName, W: Network> {
     pub shared_broker: SharedBroker<'g, B, N>,
     /// The ports of all its workers.
     pub ports: Vec<Ports<B>>,
@@ -69,9 +68,9 @@ pub struct Closed<'g, B: Broker, N: HistoryName, S, Q> {
     /// How the connections of each worker ended.
     pub served: Vec<ServedCounts>,
     /// Where the connections came from, and how many.
-    pub taken: Taken<S>,
+    pub taken: Taken<W::Source>,
     /// Where the workers waited, which closed all connections.
-    pub pollers: Vec<Q>,
+    pub pollers: Vec<W::Poller>,
     /// The first caller of the desk, which took in those of its workers, and has the whole right to call it.
     pub caller: DeskCaller<BrokerPlace<B>, N>,
     /// Nobody is inside the broker's gate, nor ever will be.
@@ -88,8 +87,8 @@ pub struct Closed<'g, B: Broker, N: HistoryName, S, Q> {
 ///
 /// **What a broker promises**, in every schedule of its threads, whatever its transports do (`headline`), is of this one run. The connections that the source gave, in its
 /// order, came each to one worker, once; and what each worker did is one list of deeds, from the ports that it was given, through which nothing was published, to those that
-/// it gave back: it opened each connection that came to it in a cell, or closed it as it came where an allocation failed, and went on with the connection in a cell by a
-/// round, each at the state that the deed before it left (`run`). What its poller closed and waited for is just that of these deeds: each transport was closed as the deed by which its
+/// it gave back: it opened each connection that came to it in a cell, or closed it as it came where an allocation failed, went on with the connection in a cell by a
+/// round, and retired the sessions whose time was over, each at the state that the deed before it left (`run`). What its poller closed and waited for is just that of these deeds: each transport was closed as the deed by which its
 /// connection ended left it, and each wait told the moment at which the worker went on. Through just these ports, of each group whose report is given:
 ///
 /// - each message that was accepted was first handed to at most one member, once (`first_once`);
@@ -97,8 +96,8 @@ pub struct Closed<'g, B: Broker, N: HistoryName, S, Q> {
 /// - a refused message went to nobody else (`refused_for_good`), nor did a discarded one (`discarded_for_good`);
 /// - the report gives each accepted message exactly one fate, and nothing else any (`one_fate`), and that is the one that it had (`what_happened`).
 ///
-/// And each place did what the calls of the connections' steps did there, and nothing else (`came_of_calls`): these are one list for each run (`calls_are`), in which what a step hands out
-/// are its PUBLISH packets with DUP 0, and what it settles is what its PUBACK came for.
+/// And each place did what the calls of the runs did there, and nothing else (`came_of_calls`): these are one list for each run (`calls_are`), in which what a step hands out
+/// are its PUBLISH packets with DUP 0, and what it settles is what its PUBACK came for; where sessions are retired whose time is over, messages are given back, and none is handed out or settled.
 ///
 /// And of the broker:
 ///
@@ -113,38 +112,35 @@ pub fn serve<
     'g,
     B: Broker + Send + Sync,
     N: HistoryName + Send + Sync,
-    T: Transport + Drop + Send,
-    S: Source<T> + Drop + Send,
-    Q: Poller<T> + Drop + Send,
-    I: Send,
-    D: Watch<I> + Send,
+    W: Network,
+    D: Watch,
     R: Threads + Wait + SystemClock + Sync,
 >(
     rt: &R,
     alloc: Global,
     broker: OpenBroker<'g, B, N>,
     shares: &[Share],
-    setup: PoolSetup<T, Q>,
-    source: S,
+    setup: PoolSetup<W>,
     closers: Closers<'_, B>,
     watch: &mut D,
-    input: &mut I,
-) -> Result<Outcome<'g, B, N, S, Q>, NoMemory>
+    input: &mut D::Input,
+) -> Result<Outcome<'g, B, N, W>, NoMemory>
 where
     B::Seen: LawfulWitness + Send + Sync,
-    Q::Alarm: Send + Sync,
+    W::Transport: Send,
+    W::Source: Send,
+    W::Poller: Send,
+    W::Alarm: Send + Sync,
     requires setup { length setup.unused_pollers.items ≡ broker.workers }
-    ensures headline { IfOk result (λ outcome. (came : List T) × Gave S.arrived source came outcome.taken.source × (outcome.taken.came ≡ length came)
-        × KeepsTheHeadline B.group B.Seen.Witness T.counts T.given T.accepted broker.entry.workers setup.limits came broker.entry.caller outcome.caller outcome.shares.items outcome.ended.answers.items outcome.ended.strangers.items outcome.served.items (map Q.poller_calls outcome.pollers.items)) }
+    ensures headline { IfOk result (λ outcome. (came : List W.Transport) × Gave W.Source.arrived setup.source came outcome.taken.source × (outcome.taken.came ≡ length came)
+        × KeepsTheHeadline B.group B.Seen.Witness W.Transport.counts W.Transport.given W.Transport.accepted broker.entry.workers setup.limits came broker.entry.caller outcome.caller outcome.shares.items outcome.ended.answers.items outcome.ended.strangers.items outcome.served.items (map W.Poller.poller_calls outcome.pollers.items)) }
     ensures closed { IfOk result (λ outcome. outcome.drained ≡ B.gate) }
-    ensures taken { IfOk result (λ outcome. (S.tally outcome.taken.source).arrivals ≡ (S.tally source).arrivals + outcome.taken.came) }
-    ensures ends { IfOk result (λ outcome. EndedAs S.tally outcome.taken.end source outcome.taken.source) }
+    ensures taken { IfOk result (λ outcome. (W.Source.tally outcome.taken.source).arrivals ≡ (W.Source.tally setup.source).arrivals + outcome.taken.came) }
+    ensures ends { IfOk result (λ outcome. EndedAs W.Source.tally outcome.taken.end setup.source outcome.taken.source) }
     ensures watched { IfOk result (λ _. D.has_watched watch.old watch.new input.old input.new) }
     ensures shares { IfOk result (λ outcome. All (IsBoundIn outcome.shares.items) shares.now) }
 {
-    let closed = serve_until_closed(
-        rt, alloc, broker, shares, setup, source, closers, watch, input,
-    )?;
+    let closed = serve_until_closed(rt, alloc, broker, shares, setup, closers, watch, input)?;
     let Closed {
         shared_broker,
         ports,
@@ -177,33 +173,32 @@ pub fn serve_until_closed<
     'g,
     B: Broker + Send + Sync,
     N: HistoryName + Send + Sync,
-    T: Transport + Drop + Send,
-    S: Source<T> + Drop + Send,
-    Q: Poller<T> + Drop + Send,
-    I: Send,
-    D: Watch<I> + Send,
+    W: Network,
+    D: Watch,
     R: Threads + Wait + SystemClock + Sync,
 >(
     rt: &R,
     alloc: Global,
     broker: OpenBroker<'g, B, N>,
     shares: &[Share],
-    setup: PoolSetup<T, Q>,
-    source: S,
+    setup: PoolSetup<W>,
     closers: Closers<'_, B>,
     watch: &mut D,
-    input: &mut I,
-) -> Result<Closed<'g, B, N, S, Q>, NoMemory>
+    input: &mut D::Input,
+) -> Result<Closed<'g, B, N, W>, NoMemory>
 where
     B::Seen: Send + Sync,
-    Q::Alarm: Send + Sync,
+    W::Transport: Send,
+    W::Source: Send,
+    W::Poller: Send,
+    W::Alarm: Send + Sync,
     requires setup { length setup.unused_pollers.items ≡ broker.workers }
     ensures ports { IfOk result (λ closed. length closed.ports.items ≡ broker.entry.workers) }
-    ensures run { IfOk result (λ closed. (came : List T) × Gave S.arrived source came closed.taken.source × (closed.taken.came ≡ length came)
-        × RunsUntilClosed B.group B.Seen.Witness T.counts T.given T.accepted setup.limits came broker.entry.caller closed.caller closed.shares.items closed.ports.items closed.served.items (map Q.poller_calls closed.pollers.items)) }
+    ensures run { IfOk result (λ closed. (came : List W.Transport) × Gave W.Source.arrived setup.source came closed.taken.source × (closed.taken.came ≡ length came)
+        × RunsUntilClosed B.group B.Seen.Witness W.Transport.counts W.Transport.given W.Transport.accepted setup.limits came broker.entry.caller closed.caller closed.shares.items closed.ports.items closed.served.items (map W.Poller.poller_calls closed.pollers.items)) }
     ensures closed { IfOk result (λ closed. closed.drained ≡ B.gate) }
-    ensures taken { IfOk result (λ closed. (S.tally closed.taken.source).arrivals ≡ (S.tally source).arrivals + closed.taken.came) }
-    ensures ends { IfOk result (λ closed. EndedAs S.tally closed.taken.end source closed.taken.source) }
+    ensures taken { IfOk result (λ closed. (W.Source.tally closed.taken.source).arrivals ≡ (W.Source.tally setup.source).arrivals + closed.taken.came) }
+    ensures ends { IfOk result (λ closed. EndedAs W.Source.tally closed.taken.end setup.source closed.taken.source) }
     ensures watched { IfOk result (λ _. D.has_watched watch.old watch.new input.old input.new) }
     ensures shares { IfOk result (λ closed. All (IsBoundIn closed.shares.items) shares.now) }
 {
@@ -224,7 +219,6 @@ where
         shares,
         handles,
         setup,
-        source,
         accepting,
         watch,
         input,
@@ -259,8 +253,8 @@ where
 }
 
 /// What a pool gives back, and the shares that are bound then, in the order of their slots.
-struct Ran<B: Broker, N: HistoryName, S, Q> {
-    pooled: Pooled<B, N, S, Q>,
+struct Ran<B: Broker, N: HistoryName, W: Network> {
+    pooled: Pooled<B, N, W>,
     shares: Vec<Share>,
 }
 
@@ -268,11 +262,8 @@ struct Ran<B: Broker, N: HistoryName, S, Q> {
 fn run_bound<
     B: Broker + Send + Sync,
     N: HistoryName + Send + Sync,
-    T: Transport + Drop + Send,
-    S: Source<T> + Drop + Send,
-    Q: Poller<T> + Drop + Send,
-    I: Send,
-    D: Watch<I> + Send,
+    W: Network,
+    D: Watch,
     R: Threads + Wait + SystemClock + Sync,
 >(
     rt: &R,
@@ -280,23 +271,25 @@ fn run_bound<
     shared_broker: &SharedBroker<'_, B, N>,
     shares: &[Share],
     handles: Vec<WorkerHandle<B, N>>,
-    setup: PoolSetup<T, Q>,
-    source: S,
+    setup: PoolSetup<W>,
     accepting: Closer<'_, B>,
     watch: &mut D,
-    input: &mut I,
-) -> Result<Ran<B, N, S, Q>, Vec<WorkerHandle<B, N>>>
+    input: &mut D::Input,
+) -> Result<Ran<B, N, W>, Vec<WorkerHandle<B, N>>>
 where
     B::Seen: Send + Sync,
-    Q::Alarm: Send + Sync,
+    W::Transport: Send,
+    W::Source: Send,
+    W::Poller: Send,
+    W::Alarm: Send + Sync,
     requires workers { (1 ≤ length handles.items) × (length handles.items ≤ 64) }
     requires setup { length setup.unused_pollers.items ≡ length handles.items }
     requires unused { All (λ handle. IsUnused handle.ports handle.desk) handles.items }
     ensures handles { MatchResult result (λ ran. length ran.pooled.handles.items ≡ length handles.items) (λ back. length back.items ≡ length handles.items) }
-    ensures taken { IfOk result (λ ran. (S.tally ran.pooled.taken.source).arrivals ≡ (S.tally source).arrivals + ran.pooled.taken.came) }
-    ensures ends { IfOk result (λ ran. EndedAs S.tally ran.pooled.taken.end source ran.pooled.taken.source) }
-    ensures served { IfOk result (λ ran. (came : List T) × (routes : List ShareState) × (ran.shares.items ≡ take most_routes routes) × Gave S.arrived source came ran.pooled.taken.source × (ran.pooled.taken.came ≡ length came)
-        × AreServed B.group B.Seen.Witness T.counts T.given T.accepted (arrivals setup.limits came) routes (map (λ handle. handle.ports) ran.pooled.handles.items) (map (λ handle. handle.desk) ran.pooled.handles.items) ran.pooled.served.items (map Q.poller_calls ran.pooled.pollers.items)) }
+    ensures taken { IfOk result (λ ran. (W.Source.tally ran.pooled.taken.source).arrivals ≡ (W.Source.tally setup.source).arrivals + ran.pooled.taken.came) }
+    ensures ends { IfOk result (λ ran. EndedAs W.Source.tally ran.pooled.taken.end setup.source ran.pooled.taken.source) }
+    ensures served { IfOk result (λ ran. (came : List W.Transport) × (routes : List ShareState) × (ran.shares.items ≡ take most_routes routes) × Gave W.Source.arrived setup.source came ran.pooled.taken.source × (ran.pooled.taken.came ≡ length came)
+        × AreServed B.group B.Seen.Witness W.Transport.counts W.Transport.given W.Transport.accepted (arrivals setup.limits came) routes (map (λ handle. handle.ports) ran.pooled.handles.items) (map (λ handle. handle.desk) ran.pooled.handles.items) ran.pooled.served.items (map W.Poller.poller_calls ran.pooled.pollers.items)) }
     ensures watched { IfOk result (λ _. D.has_watched watch.old watch.new input.old input.new) }
     ensures shares { IfOk result (λ ran. All (IsBoundIn ran.shares.items) shares.now) }
 {
@@ -312,7 +305,6 @@ where
         shared_broker,
         handles,
         setup,
-        source,
         accepting,
         watch,
         input,

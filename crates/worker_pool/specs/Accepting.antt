@@ -3,7 +3,7 @@ use Rattle.std.specs.Prelude.{◌≡◌, ◌⊎◌, ◌+◌, List, ◌++◌, len
 use Rattle.transport.specs.declared.counts.Tally.{Tally}
 use Rattle.transport.specs.Counting.{MayCome}
 use Rattle.conn_channel.specs.Ends.{SenderState}
-use Rattle.conn_rules.specs.declared.limits.ClientLimits.{ClientLimits}
+use Rattle.conn_rules.specs.declared.client_limits.ClientLimits.{ClientLimits}
 use Rattle.worker_connections.specs.Arrivals.{ArrivedState}
 use Rattle.worker_pool.specs.declared.accepting.SourceEnd.{SourceEnd}
 use Rattle.worker_pool.specs.declared.accepting.SourceEnd.TheVariants as ends

@@ -4,6 +4,7 @@ ghost use Rattle.gate_word.specs.Calls.{Looks, Shuts};
 ghost use Rattle.gate_word.specs.Seats.{AreSeatsOf};
 ghost use Rattle.worker_pool.specs.Accepting.{EndedAs, HasAccepted, OnlyMarks, TellsEnd};
 
+use crate::network::Network;
 use bell::Wake;
 use broker_groups::Broker;
 use broker_worker::Mailboxes;
@@ -112,10 +113,10 @@ impl<'a, B: Broker> Closer<'a, B> {
 ///
 /// Contracts see it as an `AcceptorState`.
 #[derive(Drop)]
-pub(crate) struct Acceptor<'a, B: Broker, T: Transport + Drop, S: Source<T>, W> {
-    source: S,
-    sender: Sender<Arrived<T>>,
-    mailboxes: &'a Mailboxes<W>,
+pub(crate) struct Acceptor<'a, B: Broker, W: Network> {
+    source: W::Source,
+    sender: Sender<Arrived<W::Transport>>,
+    mailboxes: &'a Mailboxes<W::Alarm>,
     closer: Closer<'a, B>,
     limits: ClientLimits,
     is_closed: bool,
@@ -125,26 +126,26 @@ pub(crate) struct Acceptor<'a, B: Broker, T: Transport + Drop, S: Source<T>, W> 
     end: SourceEnd,
 }
 
-impl<'a, B: Broker, T: Transport + Drop, S: Source<T>, W> Model for Acceptor<'a, B, T, S, W> {
+impl<'a, B: Broker, W: Network> Model for Acceptor<'a, B, W> {
     ghost use Rattle.std.specs.Prelude.{◌≡◌, ◌≤◌, false, length};
     ghost use Rattle.worker_pool.specs.Accepting.{AcceptorState};
 
-    ghost Value = { AcceptorState T S };
+    ghost Value = { AcceptorState W.Transport W.Source };
 
     ghost view = { λ a. record { source = a.source; sender = a.sender; limits = a.limits; end = a.end } };
 
-    ghost invariant = { λ a. (a.is_closed ≡ false → a.sender.end_marks_sent ≡ 0) × (a.came ≡ length a.sender.sent) × (a.came ≤ (S.tally a.source).arrivals) };
+    ghost invariant = { λ a. (a.is_closed ≡ false → a.sender.end_marks_sent ≡ 0) × (a.came ≡ length a.sender.sent) × (a.came ≤ (W.Source.tally a.source).arrivals) };
 }
 
-impl<'a, B: Broker, T: Transport + Drop, S: Source<T>, W> Acceptor<'a, B, T, S, W> {
+impl<'a, B: Broker, W: Network> Acceptor<'a, B, W> {
     /// Takes from this source, and sends through this end; the client of each is granted so much at most.
     pub(crate) fn new(
-        source: S,
-        sender: Sender<Arrived<T>>,
-        mailboxes: &'a Mailboxes<W>,
+        source: W::Source,
+        sender: Sender<Arrived<W::Transport>>,
+        mailboxes: &'a Mailboxes<W::Alarm>,
         closer: Closer<'a, B>,
         limits: ClientLimits,
-    ) -> Acceptor<'a, B, T, S, W>
+    ) -> Acceptor<'a, B, W>
         requires { (sender.sent ≡ []) × (sender.end_marks_sent ≡ 0) }
         ensures { result ≡ record { source = source; sender = sender; limits = limits; end = SourceEnd.Untouched } }
     {
@@ -161,14 +162,14 @@ impl<'a, B: Broker, T: Transport + Drop, S: Source<T>, W> Acceptor<'a, B, T, S, 
     }
 
     /// The end of the channel.
-    pub(crate) fn sender(&self) -> &Sender<Arrived<T>>
+    pub(crate) fn sender(&self) -> &Sender<Arrived<W::Transport>>
         ensures { result.now ≡ self.now.sender }
     {
         &self.sender
     }
 
     /// The end of the channel, and what became of the source.
-    pub(crate) fn into_parts(self) -> (Sender<Arrived<T>>, Taken<S>)
+    pub(crate) fn into_parts(self) -> (Sender<Arrived<W::Transport>>, Taken<W::Source>)
         ensures sender { result.0 ≡ self.entry.sender }
         ensures source { result.1.source ≡ self.entry.source }
         ensures came { result.1.came ≡ length self.entry.sender.sent }
@@ -186,14 +187,12 @@ impl<'a, B: Broker, T: Transport + Drop, S: Source<T>, W> Acceptor<'a, B, T, S, 
         } = self;
         (sender, Taken { source, end, came })
     }
-}
 
-impl<'a, B: Broker, T: Transport + Drop, S: Source<T>, W: Wake> Acceptor<'a, B, T, S, W> {
     /// Once every worker has begun, takes connections from the source until it has ended or failed, and sends each for the worker that has the fewest. Then the
     /// broker closes: where the source had not ended, the gate is shut; every worker is called, and is sent its end mark.
     pub(crate) fn accept_all<R: Wait + Clock>(&mut self, rt: &R)
-        ensures accepted { HasAccepted S.tally S.arrived self.old self.new }
-        ensures ends { TellsEnd S.tally self.old self.new }
+        ensures accepted { HasAccepted W.Source.tally W.Source.arrived self.old self.new }
+        ensures ends { TellsEnd W.Source.tally self.old self.new }
     {
         self.accept_begun(rt);
         self.shut_unless_ended();
@@ -202,8 +201,8 @@ impl<'a, B: Broker, T: Transport + Drop, S: Source<T>, W: Wake> Acceptor<'a, B, 
 
     /// Once every worker has begun, takes connections until the source has ended or failed; none where a worker does not begin in time.
     fn accept_begun<R: Wait + Clock>(&mut self, rt: &R)
-        ensures accepted { HasAccepted S.tally S.arrived self.old self.new }
-        ensures ends { TellsEnd S.tally self.old self.new }
+        ensures accepted { HasAccepted W.Source.tally W.Source.arrived self.old self.new }
+        ensures ends { TellsEnd W.Source.tally self.old self.new }
     {
         if all_begin(rt, self.mailboxes) {
             self.end = self.accept(rt);
@@ -221,8 +220,8 @@ impl<'a, B: Broker, T: Transport + Drop, S: Source<T>, W: Wake> Acceptor<'a, B, 
 
     /// Takes connections until the source has ended or failed.
     fn accept<R: Wait + Clock>(&mut self, rt: &R) -> SourceEnd
-        ensures accepted { HasAccepted S.tally S.arrived self.old self.new }
-        ensures ends { EndedAs S.tally result self.old.source self.new.source }
+        ensures accepted { HasAccepted W.Source.tally W.Source.arrived self.old self.new }
+        ensures ends { EndedAs W.Source.tally result self.old.source self.new.source }
     {
         'arrivals: for _ in rt.forever() {
             match self.mailboxes.least_full() {
@@ -239,8 +238,8 @@ impl<'a, B: Broker, T: Transport + Drop, S: Source<T>, W: Wake> Acceptor<'a, B, 
 
     /// Takes what the source gives next, and sends it for this worker. How the source ended, if it did.
     fn accept_one<R: Wait>(&mut self, rt: &R, worker: usize) -> Option<SourceEnd>
-        ensures accepted { HasAccepted S.tally S.arrived self.old self.new }
-        ensures ends { MatchOption result ((S.tally self.new.source).failures ≡ (S.tally self.old.source).failures) (λ end. EndedAs S.tally end self.old.source self.new.source) }
+        ensures accepted { HasAccepted W.Source.tally W.Source.arrived self.old self.new }
+        ensures ends { MatchOption result ((W.Source.tally self.new.source).failures ≡ (W.Source.tally self.old.source).failures) (λ end. EndedAs W.Source.tally end self.old.source self.new.source) }
         ensures asked { IfSome result (λ end. end ≢ SourceEnd.Untouched) }
     {
         if self.is_closed {
@@ -278,7 +277,7 @@ impl<'a, B: Broker, T: Transport + Drop, S: Source<T>, W: Wake> Acceptor<'a, B, 
 
     /// Tells every worker that the broker closes, and sends each its end mark.
     fn close<R: Wait>(&mut self, rt: &R)
-        ensures accepted { HasAccepted S.tally S.arrived self.old self.new }
+        ensures accepted { HasAccepted W.Source.tally W.Source.arrived self.old self.new }
         ensures same { self.new ≡ record self.old { sender = self.new.sender } }
     {
         self.is_closed = true;

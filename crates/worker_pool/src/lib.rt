@@ -5,6 +5,7 @@
 #![tactic(auto)]
 
 mod accepting;
+mod network;
 mod pool;
 mod provision;
 mod running;
@@ -12,6 +13,7 @@ mod setup;
 mod watching;
 
 pub use accepting::{Closer, SourceEnd, Taken};
+pub use network::Network;
 pub use pool::{Pooled, Unbegun, run};
 pub use setup::PoolSetup;
 pub use watching::Watch;

@@ -8,6 +8,7 @@ ghost use Rattle.worker_pool.specs.Pools.{AreAllCounted, AreServed, CountsAll, H
 ghost use Rattle.worker_pool.specs.Workers.{AreNumbered, HasServed, IsHired};
 
 use crate::accepting::{Acceptor, Closer, Taken};
+use crate::network::Network;
 use crate::provision::{Provision, provide};
 use crate::running::run_all;
 use crate::setup::PoolSetup;
@@ -22,26 +23,26 @@ use std::alloc::Global;
 use std::rt::Clock as SystemClock;
 use std::sync::Wait;
 use std::thread::Threads;
-use transport::{Source, Transport};
+use transport::Transport;
 use worker_connections::{Arrived, Poller, Returned, ServedCounts, WorkerHandle};
 
 /// What a pool gives back.
 #[derive(Drop)]
-pub struct Pooled<B: Broker, N: HistoryName, S, Q> {
+pub struct Pooled<B: Broker, N: HistoryName, W: Network> {
     /// What its workers had of the broker.
     pub handles: Vec<WorkerHandle<B, N>>,
     /// How the connections of each worker ended.
     pub served: Vec<ServedCounts>,
     /// Where they came from, and how many.
-    pub taken: Taken<S>,
+    pub taken: Taken<W::Source>,
     /// Where its workers waited, which closed all connections.
-    pub pollers: Vec<Q>,
+    pub pollers: Vec<W::Poller>,
 }
 
 /// A pool that was not begun, for lack of memory: no connection was taken. What its workers were to have comes back.
-pub struct Unbegun<B: Broker, N: HistoryName, S> {
+pub struct Unbegun<B: Broker, N: HistoryName, W: Network> {
     pub handles: Vec<WorkerHandle<B, N>>,
-    pub source: S,
+    pub source: W::Source,
 }
 
 /// Serves the connections of a source with as many workers as there are handles, each in a thread of its own, until the source has ended or failed, the
@@ -57,42 +58,42 @@ pub struct Unbegun<B: Broker, N: HistoryName, S> {
 pub fn run<
     B: Broker + Send + Sync,
     N: HistoryName + Send + Sync,
-    T: Transport + Drop + Send,
-    S: Source<T> + Drop + Send,
-    Q: Poller<T> + Drop + Send,
-    I: Send,
-    D: Watch<I> + Send,
+    W: Network,
+    D: Watch,
     R: Threads + Wait + SystemClock + Sync,
 >(
     rt: &R,
     alloc: Global,
     shared_broker: &SharedBroker<'_, B, N>,
     handles: Vec<WorkerHandle<B, N>>,
-    setup: PoolSetup<T, Q>,
-    source: S,
+    setup: PoolSetup<W>,
     closer: Closer<'_, B>,
     watch: &mut D,
-    input: &mut I,
+    input: &mut D::Input,
     routes: &mut KnownRoutes<'_>,
-) -> Result<Pooled<B, N, S, Q>, Unbegun<B, N, S>>
+) -> Result<Pooled<B, N, W>, Unbegun<B, N, W>>
 where
     B::Seen: Send + Sync,
-    Q::Alarm: Send + Sync,
+    W::Transport: Send,
+    W::Source: Send,
+    W::Poller: Send,
+    W::Alarm: Send + Sync,
     requires workers { (1 ≤ length handles.items) × (length handles.items ≤ 64) }
     requires setup { length setup.unused_pollers.items ≡ length handles.items }
     requires unused { All (λ handle. IsUnused handle.ports handle.desk) handles.items }
     requires routes { routes.old.table ≡ shared_broker.now }
     ensures handles { MatchResult result (λ pooled. length pooled.handles.items ≡ length handles.items) (λ unbegun. length unbegun.handles.items ≡ length handles.items) }
-    ensures taken { IfOk result (λ pooled. (S.tally pooled.taken.source).arrivals ≡ (S.tally source).arrivals + pooled.taken.came) }
-    ensures ends { IfOk result (λ pooled. EndedAs S.tally pooled.taken.end source pooled.taken.source) }
-    ensures served { IfOk result (λ pooled. (came : List T) × Gave S.arrived source came pooled.taken.source × (pooled.taken.came ≡ length came)
-        × AreServed B.group B.Seen.Witness T.counts T.given T.accepted (arrivals setup.limits came) routes.new.told (map (λ handle. handle.ports) pooled.handles.items) (map (λ handle. handle.desk) pooled.handles.items) pooled.served.items (map Q.poller_calls pooled.pollers.items)) }
+    ensures taken { IfOk result (λ pooled. (W.Source.tally pooled.taken.source).arrivals ≡ (W.Source.tally setup.source).arrivals + pooled.taken.came) }
+    ensures ends { IfOk result (λ pooled. EndedAs W.Source.tally pooled.taken.end setup.source pooled.taken.source) }
+    ensures served { IfOk result (λ pooled. (came : List W.Transport) × Gave W.Source.arrived setup.source came pooled.taken.source × (pooled.taken.came ≡ length came)
+        × AreServed B.group B.Seen.Witness W.Transport.counts W.Transport.given W.Transport.accepted (arrivals setup.limits came) routes.new.told (map (λ handle. handle.ports) pooled.handles.items) (map (λ handle. handle.desk) pooled.handles.items) pooled.served.items (map W.Poller.poller_calls pooled.pollers.items)) }
     ensures counted { IfOk result (λ pooled. pooled.taken.came < 2 ^ 64 → pooled.taken.came ≡ total_in pooled.served.items) }
     ensures watched { IfOk result (λ _. D.has_watched watch.old watch.new input.old input.new) }
-    ensures untouched { IfErr result (λ unbegun. unbegun.source ≡ source) }
+    ensures untouched { IfErr result (λ unbegun. unbegun.source ≡ setup.source) }
     ensures routes { routes.new ≡ record routes.old { told = routes.new.told } }
 {
     let PoolSetup {
+        source,
         unused_pollers,
         alarms,
         limits,
@@ -201,25 +202,16 @@ fn release<'a, 'g, B: Broker, N: HistoryName, T: Transport + Drop, Q: Poller<T> 
 }
 
 /// What workers give back that have ended, and what became of the source. There is room for all of it.
-fn retire<
-    'a,
-    'g,
-    B: Broker,
-    N: HistoryName,
-    T: Transport + Drop,
-    S: Source<T> + Drop,
-    Q: Poller<T> + Drop,
-    R: Wait,
->(
+fn retire<'a, 'g, B: Broker, N: HistoryName, W: Network, R: Wait>(
     shared_broker: &SharedBroker<'g, B, N>,
-    acceptor: Acceptor<'a, B, T, S, Q::Alarm>,
-    workers: Vec<Worker<'a, 'g, B, N, T, Q, R>>,
+    acceptor: Acceptor<'a, B, W>,
+    workers: Vec<Worker<'a, 'g, B, N, W::Transport, W::Poller, R>>,
     handles: Vec<WorkerHandle<B, N>>,
-    receivers: Vec<Receiver<Arrived<T>>>,
+    receivers: Vec<Receiver<Arrived<W::Transport>>>,
     served: Vec<ServedCounts>,
-    pollers: Vec<Q>,
+    pollers: Vec<W::Poller>,
     routes: &mut KnownRoutes<'_>,
-) -> Pooled<B, N, S, Q>
+) -> Pooled<B, N, W>
     requires workers { All (HasServed acceptor.sender.channel shared_broker.now) workers.items }
     requires numbered { (share : ℕ) × AreNumbered share workers.items }
     requires routes { routes.old.table ≡ shared_broker.now }
@@ -232,7 +224,7 @@ fn retire<
     ensures source { result.taken.source ≡ acceptor.entry.source }
     ensures came { result.taken.came ≡ length acceptor.entry.sender.sent }
     ensures ends { result.taken.end ≡ acceptor.entry.end }
-    ensures served { AreServed B.group B.Seen.Witness T.counts T.given T.accepted acceptor.entry.sender.sent routes.new.told (map (λ handle. handle.ports) result.handles.items) (map (λ handle. handle.desk) result.handles.items) result.served.items (map Q.poller_calls result.pollers.items) }
+    ensures served { AreServed B.group B.Seen.Witness W.Transport.counts W.Transport.given W.Transport.accepted acceptor.entry.sender.sent routes.new.told (map (λ handle. handle.ports) result.handles.items) (map (λ handle. handle.desk) result.handles.items) result.served.items (map W.Poller.poller_calls result.pollers.items) }
     ensures counted { CountsAll result.taken.came result.served.items }
     ensures routes { routes.new ≡ record routes.old { told = routes.new.told } }
 {

@@ -4,8 +4,8 @@ ghost use Rattle.worker_pool.specs.Accepting.{HasAccepted, TellsEnd};
 ghost use Rattle.worker_pool.specs.Workers.{HaveRun};
 
 use crate::accepting::Acceptor;
+use crate::network::Network;
 use crate::watching::Watch;
-use bell::Wake;
 use broker_groups::Broker;
 use broker_worker::Worker;
 use call_history::HistoryName;
@@ -13,7 +13,7 @@ use std::rt::Clock as SystemClock;
 use std::sync::Wait;
 use std::thread;
 use std::thread::Threads;
-use transport::{Source, Transport};
+use transport::Transport;
 use worker_connections::Poller;
 
 /// Who does something in a thread.
@@ -26,11 +26,10 @@ trait Labour<R> {
         ensures { has_run self.old self.new };
 }
 
-impl<'a, B: Broker, T: Transport + Drop, S: Source<T>, W: Wake, R: Wait + SystemClock> Labour<R>
-    for Acceptor<'a, B, T, S, W> {
+impl<'a, B: Broker, W: Network, R: Wait + SystemClock> Labour<R> for Acceptor<'a, B, W> {
     ghost use Rattle.worker_pool.specs.Accepting.{HasAccepted, TellsEnd};
 
-    ghost has_run = { λ old new. HasAccepted S.tally S.arrived old new × TellsEnd S.tally old new };
+    ghost has_run = { λ old new. HasAccepted W.Source.tally W.Source.arrived old new × TellsEnd W.Source.tally old new };
 
     fn labour(&mut self, rt: &R) {
         self.accept_all(rt);
@@ -58,24 +57,24 @@ pub(crate) fn run_all<
     'g,
     B: Broker + Send + Sync,
     N: HistoryName + Send + Sync,
-    T: Transport + Drop + Send,
-    S: Source<T> + Send,
-    Q: Poller<T> + Drop + Send,
-    I: Send,
-    D: Watch<I> + Send,
+    W: Network,
+    D: Watch,
     R: Threads + Wait + SystemClock + Sync,
 >(
     rt: &R,
-    acceptor: &mut Acceptor<'a, B, T, S, Q::Alarm>,
+    acceptor: &mut Acceptor<'a, B, W>,
     watch: &mut D,
-    input: &mut I,
-    workers: &mut Vec<Worker<'a, 'g, B, N, T, Q, R>>,
+    input: &mut D::Input,
+    workers: &mut Vec<Worker<'a, 'g, B, N, W::Transport, W::Poller, R>>,
 )
 where
     B::Seen: Send + Sync,
-    Q::Alarm: Send + Sync,
-    ensures accepted { HasAccepted S.tally S.arrived acceptor.old acceptor.new }
-    ensures ends { TellsEnd S.tally acceptor.old acceptor.new }
+    W::Transport: Send,
+    W::Source: Send,
+    W::Poller: Send,
+    W::Alarm: Send + Sync,
+    ensures accepted { HasAccepted W.Source.tally W.Source.arrived acceptor.old acceptor.new }
+    ensures ends { TellsEnd W.Source.tally acceptor.old acceptor.new }
     ensures watched { D.has_watched watch.old watch.new input.old input.new }
     ensures run { HaveRun workers.old.items workers.new.items }
 {
@@ -83,11 +82,11 @@ where
 }
 
 /// The same over any who accepts, and workers in a row. The second of two is always run in this thread, at once.
-fn accept_beside<R: Threads + Sync, A: Labour<R>, I: Send, D: Watch<I> + Send, K: Labour<R> + Send>(
+fn accept_beside<R: Threads + Sync, A: Labour<R>, D: Watch, K: Labour<R> + Send>(
     rt: &R,
     acceptor: &mut A,
     watch: &mut D,
-    input: &mut I,
+    input: &mut D::Input,
     workers: &mut [K],
 )
     ensures accepted { A.has_run acceptor.old acceptor.new }
@@ -100,10 +99,10 @@ fn accept_beside<R: Threads + Sync, A: Labour<R>, I: Send, D: Watch<I> + Send, K
 }
 
 /// Who watches does so in this thread, and each worker works in one of its own.
-fn watch_beside<R: Threads + Sync, I: Send, D: Watch<I> + Send, K: Labour<R> + Send>(
+fn watch_beside<R: Threads + Sync, D: Watch, K: Labour<R> + Send>(
     rt: &R,
     watch: &mut D,
-    input: &mut I,
+    input: &mut D::Input,
     workers: &mut [K],
 )
     ensures watched { D.has_watched watch.old watch.new input.old input.new }

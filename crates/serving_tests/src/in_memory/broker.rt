@@ -3,7 +3,7 @@ ghost use Rattle.std.specs.Prelude.{◌≡◌, ◌≤◌, ◌+◌, length};
 ghost use Rattle.gate_word.specs.Seats.{AreSeatsOf};
 ghost use Rattle.broker_groups.specs.Naming.{IsOfBroker};
 
-use crate::in_memory::connections::{AlwaysReady, Meeting, NothingToWatch, Silent};
+use crate::in_memory::connections::{AlwaysReady, InMemory, Meeting, NothingToWatch, Silent};
 use broker_groups::{Broker, BrokerName, BrokerPlace, Ended, Opened, Witnessed};
 use broker_worker::UnusedPoller;
 use call_history::HistoryName;
@@ -22,7 +22,7 @@ use std::sync::Wait;
 use std::thread::Threads;
 use threaded_broker::{Closers, OpenBroker, Outcome, serve};
 use transport::Source;
-use worker_pool::{Closer, PoolSetup};
+use worker_pool::{Closer, Network, PoolSetup};
 
 /// How many messages each group has room for.
 const CAPACITY: usize = 1_024;
@@ -94,8 +94,8 @@ fn count_reports(ended: Ended<'_>) -> Reports {
 }
 
 /// What came of a broker that was served to its end.
-fn told_of<B: Broker<Seen = Nobody>, N: HistoryName, S: Drop, Q: Drop>(
-    outcome: Outcome<'_, B, N, S, Q>,
+fn told_of<B: Broker<Seen = Nobody>, N: HistoryName, W: Network>(
+    outcome: Outcome<'_, B, N, W>,
 ) -> Told {
     let Outcome {
         ended,
@@ -167,7 +167,8 @@ fn attend<
         broker.abandon();
         return None;
     }
-    let setup = PoolSetup {
+    let setup = PoolSetup::<InMemory<'_, S, R>> {
+        source,
         unused_pollers,
         alarms,
         limits: ClientLimits::inflight_alone(MaxInflight::most()),
@@ -178,7 +179,6 @@ fn attend<
         broker,
         &[],
         setup,
-        source,
         closers,
         &mut NothingToWatch,
         &mut (),

@@ -4,14 +4,15 @@ ghost use Rattle.std.specs.Prelude.{◌≡◌, None, ⊤};
 use bell::Wake;
 use scripted_transport::Scripted;
 use std::alloc::{AllocError, Global};
+use std::marker::PhantomData;
 use std::rt::Clock;
 use std::sync::Wait;
 use std::sync::atomic::{AtomicU64, Ordering};
 use std::thread;
 use std::time::Duration;
-use transport::Crossing;
+use transport::{Crossing, Source};
 use worker_connections::{Notice, Poller, Tallies, Woken};
-use worker_pool::Watch;
+use worker_pool::{Network, Watch};
 
 /// How many connections a poller watches at most.
 const MOST: usize = 16;
@@ -105,6 +106,22 @@ impl<'a, R: Clock> Poller<Scripted> for AlwaysReady<'a, R> {
     }
 }
 
+/// Connections in memory, which come from a source of this kind.
+pub(crate) struct InMemory<'a, S, R> {
+    source: PhantomData<S>,
+    clock: PhantomData<&'a R>,
+}
+
+impl<'a, S: Source<Scripted> + Drop + Send, R: Clock + Sync> Network for InMemory<'a, S, R> {
+    type Transport = Scripted;
+
+    type Source = S;
+
+    type Alarm = Silent;
+
+    type Poller = AlwaysReady<'a, R>;
+}
+
 /// What wakes nobody, since nobody waits.
 #[derive(Drop)]
 pub(crate) struct Silent;
@@ -117,7 +134,9 @@ impl Wake for Silent {
 #[derive(Drop)]
 pub(crate) struct NothingToWatch;
 
-impl Watch<()> for NothingToWatch {
+impl Watch for NothingToWatch {
+    type Input = ();
+
     fn run(&mut self, _input: &mut ()) {}
 }
 

@@ -24,9 +24,9 @@ returns-in-Ok-copy_all-clause-served g c =
       c.in-Ok-copy_all.ensures,
       ran.1,
       ran.2,
-      more_known g.B.Broker.group (record { saw_ledger = g.B.Seen.LedgerWitness.saw_ledger; saw_main = g.B.Seen.Witness.saw_main; saw_returns = g.B.Seen.Witness.saw_returns }) g.T.Transport.counts g.T.Transport.given g.T.Transport.accepted
+      more_known g.B.Broker.group (record { saw_ledger = g.B.Seen.LedgerWitness.saw_ledger; saw_main = g.B.Seen.Witness.saw_main; saw_returns = g.B.Seen.Witness.saw_returns }) g.W.Transport.Transport.counts g.W.Transport.Transport.given g.W.Transport.Transport.accepted
           (arrivals c.args.setup.limits ran.0) c.run.new.routes.told c.refresh.new.self.shares
           (map (λ (handle : WorkerHandle g.row.B.Denot g.row.N.Denot g.row.B-Seen.Denot). handle.ports) pooled.handles.items)
-          (map (λ (handle : WorkerHandle g.row.B.Denot g.row.N.Denot g.row.B-Seen.Denot). handle.desk) pooled.handles.items) pooled.served.items (map g.Q.Poller.poller_calls pooled.pollers.items)
+          (map (λ (handle : WorkerHandle g.row.B.Denot g.row.N.Denot g.row.B-Seen.Denot). handle.desk) pooled.handles.items) pooled.served.items (map g.W.Poller.Poller.poller_calls pooled.pollers.items)
           c.refresh.ensures.told ran.3,
     )

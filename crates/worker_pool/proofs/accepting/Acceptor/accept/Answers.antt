@@ -5,15 +5,15 @@ use Rattle.worker_pool.proofs.accepting.Acceptor.accept.Goals as goal
 
 pub returns-in-Some-accept_one-clause-accepted : goal.returns-in-Some-accept_one-clause-accepted
 returns-in-Some-accept_one-clause-accepted g c =
-    more g.S.Source.tally g.S.Source.arrived c.args.self.now c.arrivals.self c.accept_one.new.self c.arrivals.invariant.accepted c.accept_one.ensures.accepted
+    more g.W.Source.Source.tally g.W.Source.Source.arrived c.args.self.now c.arrivals.self c.accept_one.new.self c.arrivals.invariant.accepted c.accept_one.ensures.accepted
 
 pub returns-in-Some-accept_one-clause-ends : goal.returns-in-Some-accept_one-clause-ends
 returns-in-Some-accept_one-clause-ends g c =
-    after g.S.Source.tally g.S.Source.arrived c.in-Some-accept_one.end c.args.self.now.source c.arrivals.self.source c.accept_one.new.self.source
+    after g.W.Source.Source.tally g.W.Source.Source.arrived c.in-Some-accept_one.end c.args.self.now.source c.arrivals.self.source c.accept_one.new.self.source
     c.in-Some-accept_one.ensures.asked c.arrivals.invariant.failures c.in-Some-accept_one.ensures.ends
 
 pub arrivals-preserved-in_default : goal.arrivals-preserved-in_default
 arrivals-preserved-in_default g c = record {
-  accepted = more g.S.Source.tally g.S.Source.arrived c.args.self.now c.arrivals.self c.accept_one.new.self c.arrivals.invariant.accepted c.accept_one.ensures.accepted;
+  accepted = more g.W.Source.Source.tally g.W.Source.Source.arrived c.args.self.now c.arrivals.self c.accept_one.new.self c.arrivals.invariant.accepted c.accept_one.ensures.accepted;
   failures = c.in_default.ensures.ends ∙ c.arrivals.invariant.failures;
 }

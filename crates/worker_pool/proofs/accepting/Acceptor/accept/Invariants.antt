@@ -5,6 +5,6 @@ use Rattle.worker_pool.proofs.accepting.Acceptor.accept.Given as goal
 
 abbrev pub invariant-arrivals : goal.invariant-arrivals
 invariant-arrivals g l = record {
-  accepted : HasAccepted g.S.Source.tally g.S.Source.arrived l.fn.self l.self;
-  failures : (g.S.Source.tally l.self.source).failures ≡ (g.S.Source.tally l.fn.self.source).failures;
+  accepted : HasAccepted g.W.Source.Source.tally g.W.Source.Source.arrived l.fn.self l.self;
+  failures : (g.W.Source.Source.tally l.self.source).failures ≡ (g.W.Source.Source.tally l.fn.self.source).failures;
 }

@@ -6,12 +6,12 @@ use Rattle.worker_pool.proofs.accepting.Acceptor.accept_all.Goals as goal
 
 pub returns-clause-accepted : goal.returns-clause-accepted
 returns-clause-accepted g c =
-    more g.S.Source.tally g.S.Source.arrived c.args.self.now c.accept_begun.new.self c.close.new.self c.accept_begun.ensures.accepted
-    (subst (λ (old : AcceptorState g.row.T.Denot g.row.S.Denot). HasAccepted g.S.Source.tally g.S.Source.arrived old c.close.new.self) c.shut_unless_ended.ensures c.close.ensures.accepted)
+    more g.W.Source.Source.tally g.W.Source.Source.arrived c.args.self.now c.accept_begun.new.self c.close.new.self c.accept_begun.ensures.accepted
+    (subst (λ (old : AcceptorState g.row.W-Transport.Denot g.row.W-Source.Denot). HasAccepted g.W.Source.Source.tally g.W.Source.Source.arrived old c.close.new.self) c.shut_unless_ended.ensures c.close.ensures.accepted)
 
 pub returns-clause-ends : goal.returns-clause-ends
 returns-clause-ends g c =
-    still g.S.Source.tally g.S.Source.arrived c.args.self.now c.accept_begun.new.self c.close.new.self
-    (ap (λ (a : AcceptorState g.row.T.Denot g.row.S.Denot). a.source) c.close.ensures.same ∙ ap (λ (a : AcceptorState g.row.T.Denot g.row.S.Denot). a.source) c.shut_unless_ended.ensures)
-    (ap (λ (a : AcceptorState g.row.T.Denot g.row.S.Denot). a.end) c.close.ensures.same ∙ ap (λ (a : AcceptorState g.row.T.Denot g.row.S.Denot). a.end) c.shut_unless_ended.ensures)
+    still g.W.Source.Source.tally g.W.Source.Source.arrived c.args.self.now c.accept_begun.new.self c.close.new.self
+    (ap (λ (a : AcceptorState g.row.W-Transport.Denot g.row.W-Source.Denot). a.source) c.close.ensures.same ∙ ap (λ (a : AcceptorState g.row.W-Transport.Denot g.row.W-Source.Denot). a.source) c.shut_unless_ended.ensures)
+    (ap (λ (a : AcceptorState g.row.W-Transport.Denot g.row.W-Source.Denot). a.end) c.close.ensures.same ∙ ap (λ (a : AcceptorState g.row.W-Transport.Denot g.row.W-Source.Denot). a.end) c.shut_unless_ended.ensures)
     c.accept_begun.ensures.ends
