@@ -136,6 +136,7 @@ one_service rows a b h i =
     let drain = one_number (codes "drain") 0 86400 rows a.drain b.drain h.drain i.drain in
     let metrics = one_number (codes "metrics") 0 65535 rows a.metrics b.metrics h.metrics i.metrics in
     let log = one_log rows a b h i in
+    let sessions = one_number (codes "sessions") 1 65536 rows a.sessions b.sessions h.sessions i.sessions in
     let keep_parked = one_keep rows a b h i in
     let declared_groups = one_declared rows a b h i in
     let per_address = one_number (codes "per-address") 0 65535 rows a.per_address b.per_address h.per_address i.per_address in
@@ -145,7 +146,7 @@ one_service rows a b h i =
     let max_keep_alive = one_number_if (codes "max-keep-alive") 1 65535 rows a.max_keep_alive b.max_keep_alive h.max_keep_alive i.max_keep_alive in
     let users = sym h.users ∙ i.users in
     let groups = each_one (pairs_in rows) [] a.groups b.groups h.groups i.groups in
-    (λ i. record { address = address i; port = port i; workers = workers i; until = until i; drain = drain i; metrics = metrics i; log = log i; keep_parked = keep_parked i; declared_groups = declared_groups i; per_address = per_address i; max_expiry = max_expiry i; max_keep_alive = max_keep_alive i; users = users i; capacity = capacity i; max_inflight = max_inflight i; groups = groups i; few = is_prop→PathP (λ j. IsFew (workers j)) (λ j. ×_prop le_prop le_prop) a.few b.few i })
+    (λ i. record { address = address i; port = port i; workers = workers i; until = until i; drain = drain i; metrics = metrics i; log = log i; sessions = sessions i; keep_parked = keep_parked i; declared_groups = declared_groups i; per_address = per_address i; max_expiry = max_expiry i; max_keep_alive = max_keep_alive i; users = users i; capacity = capacity i; max_inflight = max_inflight i; groups = groups i; few = is_prop→PathP (λ j. IsFew (workers j)) (λ j. ×_prop le_prop le_prop) a.few b.few i })
 
 abbrev IsCounted : ℕ → Type 0
 IsCounted iterations = (1 ≤ iterations) × (iterations ≤ 1000000)

@@ -10,7 +10,7 @@ use Rattle.users.specs.Lines.{is_user_name}
 use Rattle.broker_log.specs.declared.level.Level.{Level}
 use Rattle.broker_log.specs.declared.level.Level.TheVariants as levels
 use Rattle.arguments.specs.Groups.{AddsEach, RefusesOne}
-use Rattle.arguments.specs.Options.{address_option, capacity_option, declared_groups_option, drain_option, group_option, iterations_option, keep_parked_option, log_option, max_expiry_option, max_inflight_option, max_keep_alive_option, metrics_option, name_option, per_address_option, port_option, until_option, users_option, workers_option, HasNumber, HasNumberIf, HaveCapacity, HaveMaxInflight, pairs_in}
+use Rattle.arguments.specs.Options.{address_option, capacity_option, declared_groups_option, drain_option, group_option, iterations_option, keep_parked_option, log_option, max_expiry_option, max_inflight_option, max_keep_alive_option, metrics_option, name_option, per_address_option, port_option, sessions_option, until_option, users_option, workers_option, HasNumber, HasNumberIf, HaveCapacity, HaveMaxInflight, pairs_in}
 use Rattle.arguments.specs.declared.command.Request.{Request}
 use Rattle.arguments.specs.declared.command.Request.TheVariants.{Solo, Drive, Serve, HashPassword}
 use Rattle.arguments.specs.declared.groups.Refusal.{Refusal}
@@ -25,11 +25,11 @@ use Rattle.arguments.specs.declared.service.ServeUntil.TheVariants.{Stdin, Kille
 abbrev pub command_named : Text → App
 command_named name = with_rule (with_rule (with_rule (new_app name) capacity_option) max_inflight_option) group_option
 
--- the thirteen options that `serve` has of its own
+-- the fourteen options that `serve` has of its own
 abbrev pub serve_alone : App
 serve_alone =
-    with_rule (with_rule (with_rule (with_rule (with_rule (with_rule (with_rule (with_rule (with_rule (with_rule (with_rule (with_rule (with_rule (new_app (codes "serve")) port_option) address_option) workers_option) until_option) drain_option) metrics_option) log_option)
-    keep_parked_option) declared_groups_option) per_address_option) max_expiry_option) max_keep_alive_option) users_option
+    with_rule (with_rule (with_rule (with_rule (with_rule (with_rule (with_rule (with_rule (with_rule (with_rule (with_rule (with_rule (with_rule (with_rule (new_app (codes "serve")) port_option) address_option) workers_option) until_option) drain_option) metrics_option) log_option)
+    sessions_option) keep_parked_option) declared_groups_option) per_address_option) max_expiry_option) max_keep_alive_option) users_option
 
 -- `serve`, with these before them
 abbrev pub serve_command : App
@@ -82,6 +82,7 @@ pub record IsServiceBy (rows : List Row) (service : ServeOptions) : Type 0 where
   pub drain : HasNumber (codes "drain") 0 86400 rows service.drain
   pub metrics : HasNumber (codes "metrics") 0 65535 rows service.metrics
   pub log : first_of (codes "log") rows ≡ Some (level_word service.log)
+  pub sessions : HasNumber (codes "sessions") 1 65536 rows service.sessions
   pub keep_parked : first_of (codes "keep-parked") rows ≡ Some (flag_word service.keep_parked)
   pub declared_groups : first_of (codes "declared-groups") rows ≡ Some (flag_word service.declared_groups)
   pub per_address : HasNumber (codes "per-address") 0 65535 rows service.per_address

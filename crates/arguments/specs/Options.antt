@@ -93,6 +93,15 @@ log_option = record (new_rule (codes "log")) {
   defaults = codes "off" ∷ [];
 }
 
+-- `--sessions N`, at most once: a number from 1 to 65536, and 256 where it is not given
+abbrev pub sessions_option : Rule
+sessions_option = record (new_rule (codes "sessions")) {
+  long = Some (codes "sessions");
+  value_names = 1;
+  parser = Some (Signed (pos 1) (pos 65536));
+  defaults = codes "256" ∷ [];
+}
+
 -- `--keep-parked`, at most once, without a value
 abbrev pub keep_parked_option : Rule
 keep_parked_option = record (new_rule (codes "keep-parked")) {

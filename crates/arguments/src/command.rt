@@ -7,7 +7,8 @@ ghost use Rattle.arguments.specs.CommandLine.{command_line, command_named, passw
 use crate::hashing::password_of;
 use crate::options::{
     address, capacity, declared_groups, drain, group, iterations, keep_parked, log, max_expiry,
-    max_inflight, max_keep_alive, metrics, name, per_address, port, until, users, workers,
+    max_inflight, max_keep_alive, metrics, name, per_address, port, sessions, until, users,
+    workers,
 };
 use crate::password::PasswordOptions;
 use crate::service::ServeOptions;
@@ -116,7 +117,7 @@ pub(crate) fn command_named<'a>(
         .arg(group(alloc))
 }
 
-/// `serve` and its sixteen options.
+/// `serve` and its seventeen options.
 pub(crate) fn serve_command<'a>(alloc: Global) -> Result<Command<'a>, AllocError>
     ensures { IfOk result (λ command. app_of command ≡ serve_command) }
 {
@@ -131,6 +132,7 @@ pub(crate) fn serve_command<'a>(alloc: Global) -> Result<Command<'a>, AllocError
         .arg(drain(alloc))?
         .arg(metrics(alloc))?
         .arg(log(alloc))?
+        .arg(sessions(alloc))?
         .arg(keep_parked(alloc))?
         .arg(declared_groups(alloc))?
         .arg(per_address(alloc))?

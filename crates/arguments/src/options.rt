@@ -1,7 +1,7 @@
 //! The options of the commands.
 ghost use Rattle.std.specs.Prelude.{◌≡◌};
 ghost use Rattle.clap.specs.Words.{rule_of};
-ghost use Rattle.arguments.specs.Options.{address_option, capacity_option, declared_groups_option, drain_option, group_option, keep_parked_option, log_option, max_expiry_option, max_inflight_option, max_keep_alive_option, metrics_option, iterations_option, name_option, per_address_option, port_option, until_option, users_option, workers_option};
+ghost use Rattle.arguments.specs.Options.{address_option, capacity_option, declared_groups_option, drain_option, group_option, keep_parked_option, log_option, max_expiry_option, max_inflight_option, max_keep_alive_option, metrics_option, iterations_option, name_option, per_address_option, port_option, sessions_option, until_option, users_option, workers_option};
 
 use clap::{Arg, ArgAction, value_parser};
 use std::alloc::Global;
@@ -134,6 +134,20 @@ pub(crate) fn log<'a>(alloc: Global) -> Arg<'a>
         )
 }
 
+/// `--sessions N`.
+pub(crate) fn sessions<'a>(alloc: Global) -> Arg<'a>
+    ensures { rule_of result ≡ sessions_option }
+{
+    Arg::new(alloc, "sessions")
+        .long("sessions")
+        .value_name("N")
+        .value_parser(value_parser!(u32).range(1..=65_536))
+        .default_value("256")
+        .help(
+            "How many sessions are kept, 1 to 65536: one for each client that is connected or comes back",
+        )
+}
+
 /// `--keep-parked`.
 pub(crate) fn keep_parked<'a>(alloc: Global) -> Arg<'a>
     ensures { rule_of result ≡ keep_parked_option }
@@ -142,7 +156,7 @@ pub(crate) fn keep_parked<'a>(alloc: Global) -> Arg<'a>
         .long("keep-parked")
         .action(ArgAction::SetTrue)
         .help(
-            "Where 256 sessions are kept, none that is parked goes for a client that has none: that one is refused, also where a session holds nothing and has no place in a group",
+            "Where as many sessions are kept as --sessions has, none that is parked goes for a client that has none: that one is refused, also where a session holds nothing and has no place in a group",
         )
 }
 

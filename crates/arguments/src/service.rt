@@ -33,6 +33,8 @@ pub struct ServeOptions {
     pub metrics: u16,
     /// What is said on the error output while it serves.
     pub log: Level,
+    /// How many sessions are kept, 1 to 65536.
+    pub sessions: u32,
     /// Where as many sessions are kept as there may be, none that is parked goes for a client that has none.
     pub keep_parked: bool,
     /// Clients have no groups but those that its setup names.

@@ -24,6 +24,7 @@ struct Numbers {
     workers: u8,
     drain: u32,
     metrics: u16,
+    sessions: u32,
     per_address: u32,
     max_expiry: Option<ExpiryLimit>,
     max_keep_alive: Option<KeepAliveLimit>,
@@ -69,6 +70,7 @@ pub(crate) fn service_of(alloc: Global, options: &ArgMatches) -> Result<ServeOpt
             drain: numbers.drain,
             metrics: numbers.metrics,
             log,
+            sessions: numbers.sessions,
             keep_parked,
             declared_groups,
             per_address: numbers.per_address,
@@ -149,6 +151,7 @@ fn numbers_of(options: &ArgMatches) -> Option<Numbers>
         × HasNumber (codes "workers") 1 64 (rows_of (found_of options.now)) numbers.workers
         × HasNumber (codes "drain") 0 86400 (rows_of (found_of options.now)) numbers.drain
         × HasNumber (codes "metrics") 0 65535 (rows_of (found_of options.now)) numbers.metrics
+        × HasNumber (codes "sessions") 1 65536 (rows_of (found_of options.now)) numbers.sessions
         × HasNumber (codes "per-address") 0 65535 (rows_of (found_of options.now)) numbers.per_address
         × HasNumberIf (codes "max-expiry") 1 4294967295 (rows_of (found_of options.now)) numbers.max_expiry
         × HasNumberIf (codes "max-keep-alive") 1 65535 (rows_of (found_of options.now)) numbers.max_keep_alive
@@ -159,6 +162,7 @@ fn numbers_of(options: &ArgMatches) -> Option<Numbers>
     let workers = number(options, "workers", 1, 64)?;
     let drain = number(options, "drain", 0, 86_400)?;
     let metrics = number(options, "metrics", 0, 65_535)?;
+    let sessions = number(options, "sessions", 1, 65_536)?;
     let per_address = number(options, "per-address", 0, 65_535)?;
     let max_expiry = number_if(options, "max-expiry", 1, 4_294_967_295)?;
     let max_keep_alive = number_if(options, "max-keep-alive", 1, 65_535)?;
@@ -169,6 +173,7 @@ fn numbers_of(options: &ArgMatches) -> Option<Numbers>
         workers: workers as u8,
         drain,
         metrics: metrics as u16,
+        sessions,
         per_address,
         max_expiry: expiry_of(max_expiry),
         max_keep_alive: keep_alive_of(max_keep_alive),

@@ -1,7 +1,7 @@
 -- One step of a connection: its reply, and what is handed out after it.
 use Rattle.std.specs.Prelude.{◌≡◌, ◌⊎◌, ℕ, ◌-◌, max, Bool, true, false, List, [], ◌++◌, Option, Some, None, Result, Ok, Err, ⊤}
 use Rattle.std.specs.Option.{option_to_list}
-use Rattle.limits.specs.Limits.{most_sessions}
+use Rattle.limits.specs.Limits.{most_retired}
 use Rattle.mqtt_packet.specs.declared.packet.Connect.{Connect}
 use Rattle.mqtt_packet.specs.declared.packet.ConnectRefusal.{ConnectRefusal}
 use Rattle.mqtt_packet.specs.declared.packet.Packet.{Packet}
@@ -132,7 +132,7 @@ module _ {S P : Type 0} (call : S → SupplyCall P → S → Type 0) (slot_of : 
   -- a Tick: what is due is swept first
   abbrev pub AnswersTick : S → ConnectedClient P → ℕ → ConnPhase P → Reply → S → Type 0
   AnswersTick old connected now phase reply new =
-      (mid : S) × Sweeps call old now most_sessions mid × IsHeard (is_overdue connected.terms.keep_alive (now - connected.heard)) mid connected now phase reply new
+      (mid : S) × Sweeps call old now most_retired mid × IsHeard (is_overdue connected.terms.keep_alive (now - connected.heard)) mid connected now phase reply new
 
   -- another connection has asked for the session: it is taken over (3.1.4); the input is not looked at
   abbrev pub IsKicked : S → ConnectedClient P → ℕ → ConnPhase P → Reply → S → Type 0
@@ -148,13 +148,13 @@ module _ {S P : Type 0} (call : S → SupplyCall P → S → Type 0) (slot_of : 
   Reacts old number (Unconnected opened) now (inputs.Packet packet) phase reply new =
       AnswersFirst (first_answer opened.limits.users packet) old number opened.limits now packet phase reply new
   Reacts old number (Unconnected opened) now (inputs.Fault fault) phase reply new = IsRefusedIf (fault_refusal fault) phase reply × (new ≡ old)
-  Reacts old number (Unconnected opened) now inputs.Tick phase reply new = Sweeps call old now most_sessions new × WaitsForConnect (is_late (now - opened.at)) opened phase reply
+  Reacts old number (Unconnected opened) now inputs.Tick phase reply new = Sweeps call old now most_retired new × WaitsForConnect (is_late (now - opened.at)) opened phase reply
   Reacts old number (Unconnected opened) now inputs.EndOfInput phase reply new = IsClosed phase reply × (new ≡ old)
   Reacts old number (Unconnected opened) now inputs.Closing phase reply new = IsClosed phase reply × (new ≡ old)
   Reacts old number (Waiting request ticks) now (inputs.Packet packet) phase reply new = ⊥
   Reacts old number (Waiting request ticks) now (inputs.Fault fault) phase reply new = ⊥
   Reacts old number (Waiting request ticks) now inputs.Tick phase reply new =
-      (mid : S) × Sweeps call old now most_sessions mid × TriesAgain call mid number now request ticks phase reply new
+      (mid : S) × Sweeps call old now most_retired mid × TriesAgain call mid number now request ticks phase reply new
   Reacts old number (Waiting request ticks) now inputs.EndOfInput phase reply new = call old (Withdraw number) new × IsClosed phase reply
   Reacts old number (Waiting request ticks) now inputs.Closing phase reply new = call old (Withdraw number) new × IsClosed phase reply
   Reacts old number (Connected connected) now (inputs.Packet packet) phase reply new =
@@ -225,7 +225,7 @@ module _ {S P : Type 0} (call : S → SupplyCall P → S → Type 0) (slot_of : 
   -- where an allocation failed for the reply
   abbrev pub FailsToReact : S → ℕ → ConnPhase P → ℕ → Input → S → Type 0
   FailsToReact old number (Unconnected opened) now (inputs.Packet packet) new = FailsFirst old number opened.limits now packet new
-  FailsToReact old number (Waiting request ticks) now inputs.Tick new = (mid : S) × Sweeps call old now most_sessions mid × FailsAgain call mid number now request new
+  FailsToReact old number (Waiting request ticks) now inputs.Tick new = (mid : S) × Sweeps call old now most_retired mid × FailsAgain call mid number now request new
   FailsToReact old number (Connected connected) now (inputs.Packet packet) new =
       (mid : S) × call old (WasKicked number false) mid × FailsOnPacket mid number connected now packet new
   FailsToReact old number other now input new = ⊥

@@ -1,6 +1,6 @@
 //! What becomes of a session whose connection has ended, or whose time is over.
 ghost use Rattle.std.specs.Prelude.{◌≡◌, ℕ, List};
-ghost use Rattle.limits.specs.Limits.{most_sessions};
+ghost use Rattle.limits.specs.Limits.{most_retired};
 ghost use Rattle.conn_engine.specs.declared.phase.ConnPhase.TheVariants as phases;
 ghost use Rattle.group_jobs.specs.Stamps.{Held};
 ghost use Rattle.member_window.specs.Contents.{held_of, IsDown};
@@ -15,7 +15,7 @@ use crate::input::Input;
 use crate::phase::ConnPhase;
 use conn_supply::{HoldingPlace, Supply};
 use group_jobs::Envelope;
-use limits::MOST_SESSIONS;
+use limits::MOST_RETIRED;
 use member_window::Window;
 use session_desk::{Membership, Session};
 use std::mem;
@@ -115,17 +115,17 @@ pub(crate) fn part_as_is<P: HoldingPlace, S: Supply<P>>(
     supply.park_as_is(session);
 }
 
-/// Retires the sessions that are due at this moment, in milliseconds: those whose time is over, and those that an earlier sweep kept for lack of memory. It stops after 256, where none is handed out, or where an allocation
-/// failed. A Tick of a connection does the same.
-pub fn sweep<P: HoldingPlace, S: Supply<P>>(supply: &mut S, now: u64)
-    ensures swept { Sweeps S.call supply.old now most_sessions supply.new }
+/// Retires the sessions that are due at this moment, in milliseconds: those whose time is over, and those that were kept earlier for lack of memory. It stops after [`MOST_RETIRED`](limits::MOST_RETIRED),
+/// where none is handed out, or where an allocation failed. A Tick of a connection does the same.
+pub fn retire_due<P: HoldingPlace, S: Supply<P>>(supply: &mut S, now: u64)
+    ensures swept { Sweeps S.call supply.old now most_retired supply.new }
     ensures visiting { S.visiting supply.new ≡ S.visiting supply.old }
 {
-    sweep_most(supply, now, MOST_SESSIONS);
+    retire_most(supply, now, MOST_RETIRED);
 }
 
 /// Retires the sessions that are due at this moment, so many at most.
-fn sweep_most<P: HoldingPlace, S: Supply<P>>(supply: &mut S, now: u64, most: usize)
+fn retire_most<P: HoldingPlace, S: Supply<P>>(supply: &mut S, now: u64, most: usize)
     ensures swept { Sweeps S.call supply.old now most supply.new }
     ensures visiting { S.visiting supply.new ≡ S.visiting supply.old }
 {
@@ -134,7 +134,7 @@ fn sweep_most<P: HoldingPlace, S: Supply<P>>(supply: &mut S, now: u64, most: usi
     }
     if let Some(session) = supply.sweep(now) {
         if retire(supply, session) {
-            sweep_most(supply, now, most - 1);
+            retire_most(supply, now, most - 1);
         }
     }
 }

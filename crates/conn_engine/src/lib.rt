@@ -13,7 +13,7 @@
 //! conn.end();
 //! ```
 //!
-//! Sessions whose time is over are retired by each Tick; where there is no connection to step, by [`sweep`], which asks the supply for each of them and hands it to [`retire`].
+//! Sessions whose time is over are retired by each Tick; where there is no connection to step, by [`retire_due`], which asks the supply for each of them and hands it to [`retire`].
 #![tactic(auto)]
 
 mod answering;
@@ -26,6 +26,6 @@ mod phase;
 mod reacting;
 
 pub use conn::Conn;
-pub use ending::{retire, sweep};
+pub use ending::{retire, retire_due};
 pub use input::Input;
 pub use phase::Opening;

@@ -13,7 +13,7 @@ ghost use Rattle.conn_engine.specs.Step.{request_of, IsNoPacket, IsWanted, Needs
 
 use crate::answering::answer;
 use crate::connecting::{attach, refuse, try_again};
-use crate::ending::{give_up, part_as_is, sweep};
+use crate::ending::{give_up, part_as_is, retire_due};
 use crate::input::Input;
 use crate::phase::{ConnPhase, ConnectRequest, ConnectedClient, Opening};
 use conn_rules::{
@@ -126,7 +126,7 @@ fn react_unconnected<P: HoldingPlace, S: Supply<P>>(
             None => close(),
         },
         Input::Tick => {
-            sweep(supply, now);
+            retire_due(supply, now);
             if is_late(now.saturating_sub(opened.at)) {
                 close()
             } else {
@@ -237,7 +237,7 @@ fn react_waiting<P: HoldingPlace, S: Supply<P>>(
 {
     match input {
         Input::Tick => {
-            sweep(supply, now);
+            retire_due(supply, now);
             try_again(supply, number, now, request, ticks)
         }
         Input::EndOfInput => {
@@ -380,7 +380,7 @@ fn tick<P: HoldingPlace, S: Supply<P>>(
     ensures sound { IsSoundPhase P.has_out phase.new }
     ensures visiting { S.visiting supply.new ≡ S.visiting supply.old }
 {
-    sweep(supply, now);
+    retire_due(supply, now);
     let ConnPhase::Connected(connected) = phase else {
         unreachable!()
     };

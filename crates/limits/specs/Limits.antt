@@ -13,9 +13,17 @@ most_members = 32
 abbrev pub most_ports : ℕ
 most_ports = 64
 
--- how many sessions of a broker are lent or parked; those that are ending may stand beside them
+-- how many sessions of a broker are lent or parked, however many it is told to keep; those that are ending may stand beside them
 abbrev pub most_sessions : ℕ
-most_sessions = 256
+most_sessions = 65536
+
+-- how many of them a broker keeps that is told nothing else
+abbrev pub default_sessions : ℕ
+default_sessions = 256
+
+-- how many sessions whose time is over end at one Tick; the others end at later ones
+abbrev pub most_retired : ℕ
+most_retired = 256
 
 -- how many connections a broker on threads has: their numbers are those below
 abbrev pub most_connections : ℕ

@@ -6,7 +6,7 @@
 #![tactic(auto)]
 
 ghost use Rattle.std.specs.Prelude.{◌≡◌};
-ghost use Rattle.limits.specs.Limits.{most_groups, most_members, most_ports, most_sessions, most_connections, most_waiting, most_bytes, most_accepted, most_unacknowledged};
+ghost use Rattle.limits.specs.Limits.{most_groups, most_members, most_ports, most_sessions, default_sessions, most_retired, most_connections, most_waiting, most_bytes, most_accepted, most_unacknowledged};
 
 /// How many groups a broker has at most: their slots are the numbers below (profile).
 pub const MOST_GROUPS: u8 = 8;
@@ -20,8 +20,15 @@ pub const MOST_MEMBERS: u8 = 32;
 /// at most (profile).
 pub const MOST_PORTS: u8 = 64;
 
-/// How many sessions of a broker are lent or parked at most; those that are ending may stand beside them (profile).
-pub const MOST_SESSIONS: usize = 256;
+/// How many sessions of a broker are lent or parked at most, however many it is told to keep; those that are ending may stand
+/// beside them (profile).
+pub const MOST_SESSIONS: u32 = 65_536;
+
+/// How many of them a broker keeps that is told nothing else (profile).
+pub const DEFAULT_SESSIONS: u32 = 256;
+
+/// How many sessions whose time is over end at one Tick at most; the others end at later ones (profile).
+pub const MOST_RETIRED: usize = 256;
 
 /// How many connections a broker on threads has at most, before their CONNECT and after it: their numbers
 /// are those below (profile).
@@ -47,6 +54,8 @@ pub fn limits_law()
     ensures members { MOST_MEMBERS ≡ most_members }
     ensures ports { MOST_PORTS ≡ most_ports }
     ensures sessions { MOST_SESSIONS ≡ most_sessions }
+    ensures default_sessions { DEFAULT_SESSIONS ≡ default_sessions }
+    ensures retired { MOST_RETIRED ≡ most_retired }
     ensures connections { MOST_CONNECTIONS ≡ most_connections }
     ensures waiting { MOST_WAITING ≡ most_waiting }
     ensures bytes { MOST_BYTES ≡ most_bytes }

@@ -32,7 +32,7 @@ use Rattle.local_broker.specs.Calls.{AsksDesk, AsksGroup, Binds, OffersFrom, Cal
 use Rattle.local_broker.proofs.OneGroup.{in_group, one_offer, one_take, one_take_back, one_settle, one_give_back, one_close}
 
 -- what a call of the desk says of its answer
-attach_is : (request : Request) (x y : Result (Attached Held GroupPlace) DeskError) → desk.Attach IfRoom request x ≡ desk.Attach IfRoom request y → x ≡ y
+attach_is : (request : Request) (x y : Result (Attached Held GroupPlace) DeskError) → desk.Attach (IfRoom 256) request x ≡ desk.Attach (IfRoom 256) request y → x ≡ y
 attach_is request x y e = cc
 
 kicked_is : (connection : ℕ) (x y : Bool) → ◌≡◌ {A = Call Held GroupPlace} (desk.Kicked connection x) (desk.Kicked connection y) → x ≡ y
@@ -126,7 +126,7 @@ module _ (one other one' other' : Broker) (alike : AreAlike one other) where
   pub one_answer : (supply_call its : SupplyCall GroupPlace) → DeskLaw one.desk.rows one.desk.made → IsSameQuestion supply_call its → HadMemory supply_call → HadMemory its → Calls one supply_call one' → Calls other its other'
       → (supply_call ≡ its) × AreAlike one' other'
   one_answer (Attach request x) its law asks had also a b =
-      let d = asks_desk (desk.Attach IfRoom request x) (desk.Attach IfRoom request asks.0) law (asks.0, refl) had (rw asks.1 at also) a (rw asks.1 at b) in
+      let d = asks_desk (desk.Attach (IfRoom 256) request x) (desk.Attach (IfRoom 256) request asks.0) law (asks.0, refl) had (rw asks.1 at also) a (rw asks.1 at b) in
       told (Attach request) x asks.0 its asks.1 (attach_is request x asks.0 d.0, d.1)
   one_answer (Withdraw connection) its law asks had also a b =
       (sym asks, (asks_desk (desk.Withdraw connection) (desk.Withdraw connection) law refl tt tt a (rw asks at b)).1)

@@ -6,6 +6,7 @@ use Rattle.mqtt_topic.specs.declared.error.TopicError.TheVariants as topic
 use Rattle.group_jobs.specs.Stamps.{Held}
 use Rattle.group_jobs.specs.declared.message.Message.{Message}
 use Rattle.group_jobs.specs.declared.stamp.Stamp.{Stamp}
+use Rattle.limits.specs.Limits.{default_sessions}
 use Rattle.session_desk.specs.declared.newcomers.Newcomers.TheVariants.{IfRoom}
 use Rattle.session_desk.specs.declared.session.Session.{Session}
 use Rattle.session_desk.specs.Calls.{Call, IsAllowed, Makes}
@@ -63,7 +64,7 @@ OffersFrom old slot connection message answer new =
 
 -- what each call makes, with its answer
 abbrev pub Calls : Broker → SupplyCall GroupPlace → Broker → Type 0
-Calls old (Attach request answer) new = AsksDesk old (desk.Attach IfRoom request answer) new
+Calls old (Attach request answer) new = AsksDesk old (desk.Attach (IfRoom default_sessions) request answer) new
 Calls old (Withdraw connection) new = AsksDesk old (desk.Withdraw connection) new
 Calls old (Kicked connection answer) new = AsksDesk old (desk.Kicked connection answer) new
 Calls old (Park session now answer) new = AsksDesk old (desk.Park session now answer) new

@@ -15,6 +15,7 @@ use crate::place::LocalPlace;
 use crate::supply::LocalSupply;
 use conn_supply::{BindRefusal, NoMemory, OfferRefusal, Supply};
 use group_jobs::{Envelope, Fate, SharedMessage, Stamp};
+use limits::DEFAULT_SESSIONS;
 use mqtt_packet::Text;
 use mqtt_topic::{Share, Slots, TopicError, TopicName};
 use session_desk::{Attached, DeskError, Newcomers, Place, Session};
@@ -55,7 +56,7 @@ impl Supply<LocalPlace> for LocalSupply {
         now: u64,
     ) -> Result<Attached<Envelope, LocalPlace>, DeskError> {
         self.desk.attach(
-            Newcomers::IfRoom,
+            Newcomers::IfRoom(DEFAULT_SESSIONS),
             connection,
             client.shared_bytes(),
             clean,

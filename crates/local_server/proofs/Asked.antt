@@ -72,7 +72,7 @@ led_aside old new leads law = all_aside leads.supply_calls old new leads.aside l
 
 -- a session is given
 gives_by : (client : List ℕ) (answer : Result (Attached Held GroupPlace) DeskError) (old new : Books Held GroupPlace) (request : Request) (session : Session Held GroupPlace)
-    → session_given answer ≡ Some session → DeskLaw old.rows old.made → attaches_by IfRoom client old request answer new → IsGiven old session request.connection new
+    → session_given answer ≡ Some session → DeskLaw old.rows old.made → attaches_by (IfRoom 256) client old request answer new → IsGiven old session request.connection new
 gives_by [] (Ok (New its ended)) old new request session is law does =
     subst (λ (s : Session Held GroupPlace). IsGiven old s request.connection new) (same_Some its session is) (given_new [] ended old new request its law does)
 gives_by [] (Ok (Resumed its)) old new request session is law does = absurd does
@@ -95,7 +95,7 @@ gives old new request number answer session whose is law does =
 
 -- none is given
 in_vain : (client : List ℕ) (answer : Result (Attached Held GroupPlace) DeskError) (old new : Books Held GroupPlace) (request : Request) → session_given answer ≡ None
-    → attaches_by IfRoom client old request answer new → KeepsRows old new
+    → attaches_by (IfRoom 256) client old request answer new → KeepsRows old new
 in_vain [] (Ok (New its ended)) old new request none does = absurd (cc)
 in_vain [] (Ok (Resumed its)) old new request none does = absurd does
 in_vain [] (Ok (Replace holder)) old new request none does = absurd does

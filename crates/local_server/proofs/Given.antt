@@ -113,19 +113,19 @@ begins_over {E} {P} old new connection session ended law over =
 
 -- a new session is given
 pub given_new : {E P : Type 0} (client : List ℕ) (ended : Option (Session E P)) (old new : Books E P) (request : Request) (session : Session E P) → DeskLaw old.rows old.made
-    → attaches_by IfRoom client old request (Ok (New session ended)) new → IsGiven old session request.connection new
+    → attaches_by (IfRoom 256) client old request (Ok (New session ended)) new → IsGiven old session request.connection new
 given_new client None old new request session law does =
-    let h = begun IfRoom old new request session client does in
+    let h = begun (IfRoom 256) old new request session client does in
     began old new h.client request.connection session law.made_before h.is h.rows (let e = h.made in omega arith)
-given_new client (Some ended) old new request session law does = begins_over old new request.connection session ended law (begun_over IfRoom old new request session client ended does)
+given_new client (Some ended) old new request session law does = begins_over old new request.connection session ended law (begun_over (IfRoom 256) old new request session client ended does)
 
 pub given_back : {E P : Type 0} (old new : Books E P) (client : List ℕ) (request : Request) (session : Session E P) → DeskLaw old.rows old.made
-    → AttachesClient IfRoom old client request (Ok (Resumed session)) new → IsGiven old session request.connection new
+    → AttachesClient (IfRoom 256) old client request (Ok (Resumed session)) new → IsGiven old session request.connection new
 given_back old new client request session law does =
     resumed old new does.number request.connection does.row session law does.its.has does.its.stands (ap (λ b. b.rows) does.after) (ap (λ b. b.made) does.after)
 
 -- none is given
-pub waits : {E P : Type 0} (old new : Books E P) (client : List ℕ) (request : Request) (holder : ℕ) → AttachesClient IfRoom old client request (Ok (Replace holder)) new
+pub waits : {E P : Type 0} (old new : Books E P) (client : List ℕ) (request : Request) (holder : ℕ) → AttachesClient (IfRoom 256) old client request (Ok (Replace holder)) new
     → KeepsRows old new
 waits {E} {P} old new client request holder does =
     let row = with_wait does.row request.connection in

@@ -46,15 +46,15 @@ empty : (number : ℕ) (client : List ℕ) (session : Session Held GroupPlace) �
 empty number client session is = ap (λ (s : Session Held GroupPlace). held_of s.window) is
 
 lent_empty : (client : List ℕ) (old new : Books Held GroupPlace) (request : Request) (session : Session Held GroupPlace) (ended : Option (Session Held GroupPlace))
-    → attaches_by IfRoom client old request (Ok (New session ended)) new → held_of session.window ≡ []
-lent_empty client old new request session None attaches = (let h = begun IfRoom old new request session client attaches in empty old.made h.client session h.is)
-lent_empty client old new request session (Some ended) attaches = (let h = begun_over IfRoom old new request session client ended attaches in empty old.made h.client session h.is)
+    → attaches_by (IfRoom 256) client old request (Ok (New session ended)) new → held_of session.window ≡ []
+lent_empty client old new request session None attaches = (let h = begun (IfRoom 256) old new request session client attaches in empty old.made h.client session h.is)
+lent_empty client old new request session (Some ended) attaches = (let h = begun_over (IfRoom 256) old new request session client ended attaches in empty old.made h.client session h.is)
 
 -- a new session holds nothing
 new_empty : AreNewEmpty Calls
 new_empty old new request session ended call = lent_empty request.client old.desk new.desk request session ended call.makes
 
-lent_named : (client : List ℕ) (old new : Books Held GroupPlace) (request : Request) (answer : Attached Held GroupPlace) → client ≡ [] → attaches_by IfRoom client old request (Ok answer) new
+lent_named : (client : List ℕ) (old new : Books Held GroupPlace) (request : Request) (answer : Attached Held GroupPlace) → client ≡ [] → attaches_by (IfRoom 256) client old request (Ok answer) new
     → BringsAssignedName answer
 lent_named [] old new request (New session None) is attaches = (attaches.number, ap (λ (s : Session Held GroupPlace). s.identity.client) attaches.begins.is)
 lent_named [] old new request (New session (Some ended)) is attaches = (attaches.number, ap (λ (s : Session Held GroupPlace). s.identity.client) attaches.begins.is)

@@ -173,9 +173,9 @@ module _ (ledger : Ledger) (old new : Broker) (request : Request) (goes : Shrink
         fresh session _ (refl, refl) does.is,
       )
 
-  client_gives : (byte : ℕ) (bytes : List ℕ) (answer : Result (Attached Held GroupPlace) DeskError) → AttachesClient IfRoom old.desk (byte ∷ bytes) request answer new.desk → Gives ledger new answer
-  client_gives byte bytes (Ok (New session None)) does = gives_new session (begun IfRoom old.desk new.desk request session (byte ∷ bytes) does)
-  client_gives byte bytes (Ok (New session (Some ended))) does = gives_over session ended (begun_over IfRoom old.desk new.desk request session (byte ∷ bytes) ended does)
+  client_gives : (byte : ℕ) (bytes : List ℕ) (answer : Result (Attached Held GroupPlace) DeskError) → AttachesClient (IfRoom 256) old.desk (byte ∷ bytes) request answer new.desk → Gives ledger new answer
+  client_gives byte bytes (Ok (New session None)) does = gives_new session (begun (IfRoom 256) old.desk new.desk request session (byte ∷ bytes) does)
+  client_gives byte bytes (Ok (New session (Some ended))) does = gives_over session ended (begun_over (IfRoom 256) old.desk new.desk request session (byte ∷ bytes) ended does)
   client_gives byte bytes (Ok (Resumed session)) does =
       let k = does.number in
       let rest = written old.desk.rows new.desk.rows k (with_holder does.row (Lent request.connection)) (ap (λ b. b.rows) does.after) refl in
@@ -190,9 +190,9 @@ module _ (ledger : Ledger) (old new : Broker) (request : Request) (goes : Shrink
   client_gives byte bytes (Err errors.NoPlace) does = absurd does
   client_gives byte bytes (Err errors.NoName) does = absurd does
 
-  gives_by : (client : List ℕ) (answer : Result (Attached Held GroupPlace) DeskError) → attaches_by IfRoom client old.desk request answer new.desk → Gives ledger new answer
-  gives_by [] (Ok (New session None)) does = gives_new session (begun IfRoom old.desk new.desk request session [] does)
-  gives_by [] (Ok (New session (Some ended))) does = gives_over session ended (begun_over IfRoom old.desk new.desk request session [] ended does)
+  gives_by : (client : List ℕ) (answer : Result (Attached Held GroupPlace) DeskError) → attaches_by (IfRoom 256) client old.desk request answer new.desk → Gives ledger new answer
+  gives_by [] (Ok (New session None)) does = gives_new session (begun (IfRoom 256) old.desk new.desk request session [] does)
+  gives_by [] (Ok (New session (Some ended))) does = gives_over session ended (begun_over (IfRoom 256) old.desk new.desk request session [] ended does)
   gives_by [] (Ok (Resumed session)) does = absurd does
   gives_by [] (Ok (Replace holder)) does = absurd does
   gives_by [] (Ok Busy) does = absurd does

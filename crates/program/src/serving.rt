@@ -219,7 +219,7 @@ fn serve_reading<H: Threads + Wait + Net + Clock + Sync, R: Read + Send, W: Writ
         workers: service.workers,
         limits: limits.share()?,
         drain: service.drain,
-        newcomers: newcomers_of(service.keep_parked),
+        newcomers: newcomers_of(service),
         new_shares: new_shares_of(service.declared_groups),
         per_address: service.per_address,
     };
@@ -241,11 +241,11 @@ fn serve_reading<H: Threads + Wait + Net + Clock + Sync, R: Read + Send, W: Writ
 }
 
 /// What a broker does for a client that has no session.
-fn newcomers_of(keep_parked: bool) -> Newcomers {
-    if keep_parked {
-        Newcomers::IfRoom
+fn newcomers_of(service: &ServeOptions) -> Newcomers {
+    if service.keep_parked {
+        Newcomers::IfRoom(service.sessions)
     } else {
-        Newcomers::Displace
+        Newcomers::Displace(service.sessions)
     }
 }
 

@@ -5,6 +5,7 @@ use crate::wrong::Wrong;
 use broker_log::{Level, Log};
 use bytes::Bytes;
 use conn_rules::{ClientLimits, MaxInflight};
+use limits::DEFAULT_SESSIONS;
 use mqtt_packet::Text;
 use mqtt_topic::{Routes, Share};
 use session_desk::Newcomers;
@@ -60,7 +61,7 @@ pub(crate) struct Counts {
 }
 
 /// Where a broker listens, how many workers it has, for how many seconds it drains at most, what its clients are granted at most, the file of its users, if there is one, what it does with shares that are
-/// not declared, and how many connections an address may have, 0 for any number. Where it refuses shares, `$share/g/job` is declared.
+/// not declared, how many connections an address may have, 0 for any number, and how many sessions are kept. Where it refuses shares, `$share/g/job` is declared.
 #[derive(Drop)]
 pub(crate) struct Listener {
     pub(crate) port: u16,
@@ -70,10 +71,11 @@ pub(crate) struct Listener {
     pub(crate) users: Option<&'static [u8]>,
     pub(crate) new_shares: NewShares,
     pub(crate) per_address: u32,
+    pub(crate) sessions: u32,
 }
 
 impl Listener {
-    /// One with so many workers, which does not drain, limits its clients to 256 messages, binds what clients ask for and takes any number of connections.
+    /// One with so many workers, which does not drain, limits its clients to 256 messages, binds what clients ask for, takes any number of connections and keeps 256 sessions.
     pub(crate) fn at(port: u16, workers: u8) -> Listener {
         Listener {
             port,
@@ -83,6 +85,7 @@ impl Listener {
             users: None,
             new_shares: NewShares::Bound,
             per_address: 0,
+            sessions: DEFAULT_SESSIONS,
         }
     }
 }
@@ -162,13 +165,14 @@ fn serve<'a, R: Threads + Wait + Net<Listener = TcpListener, Stream = TcpStream>
         users,
         new_shares,
         per_address,
+        sessions,
     } = broker;
     let settings = ServeSettings {
         capacity: 64,
         workers: workers.clamp(1, 64),
         limits: with_users(alloc, limits, users),
         drain,
-        newcomers: Newcomers::Displace,
+        newcomers: Newcomers::Displace(sessions),
         new_shares,
         per_address,
     };

@@ -9,7 +9,7 @@ use Rattle.session_desk.specs.declared.session.Session.{Session}
 use Rattle.session_desk.specs.declared.row.Row.{Row}
 use Rattle.session_desk.specs.declared.row.Holder.{Holder}
 use Rattle.session_desk.specs.declared.row.Holder.TheVariants.{Parked, Kept}
-use Rattle.session_desk.specs.Rows.{Rows, HasRow, NoRow, Register, away, IsKept, IsOverdue, IsLentIn, IsAwayIn}
+use Rattle.session_desk.specs.Rows.{Rows, HasRow, NoRow, Register, most_rows, away, IsKept, IsOverdue, IsLentIn, IsAwayIn}
 use Rattle.session_desk.specs.Sessions.{Who}
 use Rattle.session_desk.specs.Sweeping.{Sweeps, HandsOut}
 use Rattle.session_desk.specs.Books.{Books}
@@ -56,7 +56,7 @@ at_most_one_more : (b : Bool) (n : ℕ) → cond b n (n + 1) ≤ n + 1
 at_most_one_more true n = omega arith
 at_most_one_more false n = omega arith
 
-pub few_more : {E P : Type 0} (rows : Rows E P) (assigned n : ℕ) (row : Row E P) → AreFew rows assigned → map.len rows < 512 → AreFew (map.insert rows n row) assigned
+pub few_more : {E P : Type 0} (rows : Rows E P) (assigned n : ℕ) (row : Row E P) → AreFew rows assigned → map.len rows < most_rows → AreFew (map.insert rows n row) assigned
 few_more rows assigned n row few room =
     record { few = (let is = len-insert nat_cmp_total rows n row in let one = at_most_one_more (is_some (map.get rows n)) (map.len rows) in omega arith); names = few.names }
 

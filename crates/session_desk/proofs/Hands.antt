@@ -6,7 +6,8 @@ use Rattle.session_desk.specs.declared.session.Session.{Session}
 use Rattle.session_desk.specs.declared.row.Row.{Row}
 use Rattle.session_desk.specs.declared.row.Holder.{Holder}
 use Rattle.session_desk.specs.declared.row.Holder.TheVariants.{Parked, Away}
-use Rattle.session_desk.specs.Rows.{Rows, HasRow, NoneLivesAs, is_living, session_in, away, new_row}
+use Rattle.limits.specs.Limits.{most_sessions}
+use Rattle.session_desk.specs.Rows.{Rows, HasRow, NoneLivesAs, is_living, most_rows, session_in, away, new_row}
 use Rattle.session_desk.specs.Hands.{is_out, out_of_row, row_count, outs, rows_of, living_row, living_in, DeskLaw}
 use Rattle.session_desk.proofs.Seen.{after_insert, insert_here, insert_other, after_remove, remove_here, remove_other}
 use Rattle.session_desk.proofs.Booked.{len_same, len_more, len_removed}
@@ -137,7 +138,7 @@ no_more_by true false lives = omega arith
 no_more_by false true lives = absurd (false≢true (lives refl))
 no_more_by false false lives = omega arith
 
-no_more : {E P : Type 0} (before after : Row E P) → (is_living after.held_by ≡ true → is_living before.held_by ≡ true) → living_row after ≤ living_row before
+pub no_more : {E P : Type 0} (before after : Row E P) → (is_living after.held_by ≡ true → is_living before.held_by ≡ true) → living_row after ≤ living_row before
 no_more before after lives = no_more_by (is_living before.held_by) (is_living after.held_by) lives
 
 -- the law is kept where a session changes hands
@@ -172,7 +173,7 @@ law_moved rows made k before after law has client lives own quiet =
     }
 
 -- where one is new
-pub law_begun : {E P : Type 0} (rows : Rows E P) (made : ℕ) (client : List ℕ) (connection : ℕ) → DeskLaw rows made → NoneLivesAs rows client → living_in rows < 256 → map.len rows < 512
+pub law_begun : {E P : Type 0} (rows : Rows E P) (made : ℕ) (client : List ℕ) (connection : ℕ) → DeskLaw rows made → NoneLivesAs rows client → living_in rows < most_sessions → map.len rows < most_rows
     → DeskLaw (map.insert rows made (new_row {E = E} {P = P} client connection)) (made + 1)
 law_begun {E} {P} rows made client connection law none room fits =
     let row : Row E P = new_row client connection in

@@ -15,3 +15,4 @@ pub mod OneAnswer
 pub mod Everywhere
 pub mod ShutOut
 pub mod Begun
+pub mod AsTold

@@ -18,8 +18,7 @@ use Rattle.session_desk.specs.Hands.{DeskLaw}
 use Rattle.session_desk.specs.Sessions.{parked_from}
 use Rattle.session_desk.specs.Idle.{IsParkedLongest}
 use Rattle.session_desk.specs.declared.newcomers.Newcomers.{Newcomers}
-use Rattle.session_desk.specs.Newcomers.{HasRoom, BeginsFirst, Displaces, Begins}
-use Rattle.session_desk.proofs.OneHand.{has_space}
+use Rattle.session_desk.specs.Newcomers.{HasRoom, HasSpace, BeginsFirst, Displaces, Begins, room_for}
 use Rattle.session_desk.specs.Attaching.{Request, IsClients, IsStale, BeginsOver, Resumes, Replaces, IsBusy, Names, AttachesClient, AttachesUnnamed, attaches_by}
 
 -- the same answer, and the same books after it
@@ -73,7 +72,9 @@ module _ {E P : Type 0} (newcomers : Newcomers) (old : Books E P) (client : List
   first_twice a b new new' h k = (ap (λ s. Ok (New s None)) (h.is ∙ sym k.is), h.after ∙ sym k.after)
 
   first_displaced : {A : Type 0} (a b x : Session E P) (new new' : Books E P) → BeginsFirst newcomers old client connection a new → Displaces newcomers old client connection b x new' → A
-  first_displaced a b x new new' h k = absurd (let less = has_space newcomers old.rows h.room in let full = k.goes.full in omega arith)
+  first_displaced a b x new new' h k =
+      let less : map.len old.rows < room_for k.goes.most = subst (λ newcomers. HasSpace newcomers old.rows) k.goes.displaces h.room in
+      absurd (let full = k.goes.full in omega arith)
 
   displaced_full : {A : Type 0} (a x : Session E P) (new : Books E P) → Displaces newcomers old client connection a x new → ¬ HasRoom newcomers old.rows → A
   displaced_full a x new h full = absurd (full (inr (h.number, (h.row, x, h.goes))))

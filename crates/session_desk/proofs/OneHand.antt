@@ -11,12 +11,14 @@ use Rattle.session_desk.specs.declared.session.Session.{Session}
 use Rattle.session_desk.specs.declared.row.Row.{Row}
 use Rattle.session_desk.specs.declared.row.Holder.{Holder}
 use Rattle.session_desk.specs.declared.row.Holder.TheVariants.{Lent, Parked, Kept}
-use Rattle.session_desk.specs.Rows.{Rows, HasRow, NoneLivesAs, NoRow, IsKept, IsOverdue, IsRowOf, is_living, session_in, away, new_row, with_holder, with_wait}
+use Rattle.std.proofs.Math.Nat.{min-le_right}
+use Rattle.limits.specs.Limits.{most_sessions}
+use Rattle.session_desk.specs.Rows.{Rows, HasRow, NoneLivesAs, NoRow, most_rows, IsKept, IsOverdue, IsRowOf, is_living, session_in, away, new_row, with_holder, with_wait}
 use Rattle.session_desk.specs.Books.{Books, new_session, with_rows}
 use Rattle.session_desk.specs.Names.{assigned_name}
 use Rattle.session_desk.specs.declared.newcomers.Newcomers.{Newcomers}
 use Rattle.session_desk.specs.declared.newcomers.Newcomers.TheVariants.{IfRoom, Displace, Refused}
-use Rattle.session_desk.specs.Newcomers.{HasSpace, Begins}
+use Rattle.session_desk.specs.Newcomers.{HasSpace, Begins, room_for}
 use Rattle.session_desk.specs.Attaching.{Request, AttachesClient, AttachesUnnamed, attaches_by}
 use Rattle.session_desk.specs.Keeping.{parked_at, EndsLent, IsLent}
 use Rattle.session_desk.specs.Sweeping.{HandsOut}
@@ -60,7 +62,7 @@ moves old made k before after i o has client lives own quiet counts =
     }
 
 -- a session is new
-begins : {E P : Type 0} (old : Rows E P) (made : ℕ) (client : List ℕ) (connection : ℕ) → (DeskLaw old made → NoneLivesAs old client) → (DeskLaw old made → living_in old < 256) → (DeskLaw old made → map.len old < 512)
+begins : {E P : Type 0} (old : Rows E P) (made : ℕ) (client : List ℕ) (connection : ℕ) → (DeskLaw old made → NoneLivesAs old client) → (DeskLaw old made → living_in old < most_sessions) → (DeskLaw old made → map.len old < most_rows)
     → Does old (map.insert old made (new_row client connection)) made (made + 1) (λ n. cond (nat_eq made n) 1 0) zero_each zero_each
 begins {E} {P} old made client connection none room fits =
     let absent = λ (law : DeskLaw old made). none_of (map.get old made) (λ row has. let less = law.made_before made row has in omega arith) in
@@ -143,7 +145,7 @@ parks old made connection row session kept is same quiet =
     (λ law n. sym (nothing (nat_eq session.identity.number n))) (λ law n. refl) (λ law n. refl)
 
 -- a new session of a client that has none
-does_begin : {E P : Type 0} (old : Rows E P) (made : ℕ) (client : List ℕ) (connection : ℕ) (session : Session E P) → NoneLivesAs old client → map.len old < 256
+does_begin : {E P : Type 0} (old : Rows E P) (made : ℕ) (client : List ℕ) (connection : ℕ) (session : Session E P) → NoneLivesAs old client → map.len old < most_sessions
     → session ≡ new_session (record { number = made; client = client })
     → Does old (map.insert old made (new_row client connection)) made (made + 1) (λ n. once n session + 0) zero_each zero_each
 does_begin old made client connection session none room is =
@@ -153,7 +155,7 @@ does_begin old made client connection session none room is =
 
 -- where a parked session ends for it
 does_begin_over : {E P : Type 0} (old : Rows E P) (made k : ℕ) (client : List ℕ) (connection : ℕ) (row : Row E P) (session ended : Session E P) → HasRow old k row
-    → row.held_by ≡ Parked ended → (DeskLaw old made → NoneLivesAs (map.insert old k (away row.client)) client) → map.len old < 512 → session ≡ new_session (record { number = made; client = client })
+    → row.held_by ≡ Parked ended → (DeskLaw old made → NoneLivesAs (map.insert old k (away row.client)) client) → map.len old < most_rows → session ≡ new_session (record { number = made; client = client })
     → Does old (map.insert (map.insert old k (away row.client)) made (new_row client connection)) made (made + 1) (λ n. once n session + once n ended) zero_each zero_each
 does_begin_over {E} {P} old made k client connection row session ended has stands none fits is =
     let mid : Rows E P = map.insert old k (away row.client) in
@@ -167,9 +169,14 @@ does_begin_over {E} {P} old made k client connection row session ended has stand
     (begins mid made client connection (λ _. none law) (λ _. (let moved = living_moved old k row (away row.client) has in let few = law.few in omega arith)) (λ _. (let same = len_same old k row (away row.client) has in omega arith))))
     (λ _ n. (let o = once_at made n session (ap (λ s. s.identity.number) is) in omega arith)) (λ _ n. refl) (λ _ n. refl))
 
-pub has_space : {E P : Type 0} (newcomers : Newcomers) (rows : Rows E P) → HasSpace newcomers rows → map.len rows < 256
-has_space IfRoom rows room = room
-has_space Displace rows room = room
+within : {E P : Type 0} (most : ℕ) (rows : Rows E P) → map.len rows < room_for most → map.len rows < most_sessions
+within most rows room =
+    let less = min-le_right most most_sessions in
+    omega arith
+
+pub has_space : {E P : Type 0} (newcomers : Newcomers) (rows : Rows E P) → HasSpace newcomers rows → map.len rows < most_sessions
+has_space (IfRoom most) rows room = within most rows room
+has_space (Displace most) rows room = within most rows room
 has_space Refused rows room = absurd room
 
 -- what a client gets that has no session

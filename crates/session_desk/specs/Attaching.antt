@@ -11,7 +11,7 @@ use Rattle.session_desk.specs.declared.row.Row.{Row}
 use Rattle.session_desk.specs.declared.row.Holder.{Holder}
 use Rattle.session_desk.specs.declared.row.Holder.TheVariants.{Lent, Parked}
 use Rattle.session_desk.specs.Sessions.{IsOver}
-use Rattle.session_desk.specs.Rows.{HasRow, NoneLivesAs}
+use Rattle.session_desk.specs.Rows.{HasRow, NoneLivesAs, most_rows}
 use Rattle.session_desk.specs.Names.{assigned_name, IsNextName, NoNameLeft}
 use Rattle.session_desk.specs.Newcomers.{HasRoom, BeginsFirst, Displaces, Begins}
 use Rattle.session_desk.specs.Books.{Books, IsWaiting, new_session, after_new, after_name, after_lend, after_replace, after_end}
@@ -55,7 +55,7 @@ pub record BeginsOver {E P : Type 0} (old : Books E P) (client : List ℕ) (requ
   pub row : Row E P
   pub its : IsClients old client number row (Parked ended)
   pub stale : IsStale ended request.clean request.now
-  pub fits : map.len old.rows < 512
+  pub fits : map.len old.rows < most_rows
   pub is : session ≡ new_session (record { number = old.made; client = client })
   pub after : new ≡ after_new (after_end old number row) client request.connection
 

@@ -5,11 +5,13 @@ use Rattle.limits.specs.Limits.{most_sessions}
 use Rattle.session_desk.specs.declared.attached.Attached.{Attached}
 use Rattle.session_desk.specs.declared.attached.Attached.TheVariants.{New, Resumed, Replace, Busy}
 use Rattle.session_desk.specs.declared.error.DeskError.{DeskError}
+use Rattle.session_desk.specs.declared.newcomers.Newcomers.{Newcomers}
+use Rattle.session_desk.specs.declared.newcomers.Newcomers.TheVariants.{IfRoom, Displace, Refused}
 use Rattle.session_desk.specs.declared.session.Session.{Session}
 use Rattle.session_desk.specs.declared.row.Row.{Row}
 use Rattle.session_desk.specs.declared.row.Holder.{Holder}
 use Rattle.session_desk.specs.declared.row.Holder.TheVariants.{Lent, Parked, Kept, Away}
-use Rattle.session_desk.specs.Rows.{Rows, HasRow, is_living, session_in}
+use Rattle.session_desk.specs.Rows.{Rows, HasRow, is_living, most_rows, session_in}
 use Rattle.session_desk.specs.Calls.{Call, Attach, Withdraw, Kicked, Park, ParkAsIs, Keep, Bury, Sweep, LendPlace, TakePlace}
 
 -- once where it is the session with this number
@@ -104,9 +106,9 @@ living_in rows = sum_by (λ entry. living_row entry.1) (map.entries rows)
 
 -- the desk law, which every call keeps
 pub record DeskLaw {E P : Type 0} (rows : Rows E P) (made : ℕ) : Type 0 where
-  -- at most 256 rows are lent or parked; those of sessions that are ending may stand beside them, up to 512 in all
+  -- at most so many rows are lent or parked; those of sessions that are ending may stand beside them, up to twice as many in all
   pub few : living_in rows ≤ most_sessions
-  pub fit : map.len rows ≤ 512
+  pub fit : map.len rows ≤ most_rows
   -- each of a session that was new
   pub made_before : (number : ℕ) (row : Row E P) → HasRow rows number row → number < made
   -- no two rows that are lent or parked are of one client
@@ -117,3 +119,22 @@ pub record DeskLaw {E P : Type 0} (rows : Rows E P) (made : ℕ) : Type 0 where
       → session.identity ≡ record { number = number; client = row.client }
   -- no parked session's window is of an ending one
   pub not_ending : (number : ℕ) (row : Row E P) (session : Session E P) → HasRow rows number row → row.held_by ≡ Parked session → session.window.retired ≡ false
+
+-- a desk is told to keep at most so many sessions
+abbrev pub TellsAtMost : ℕ → Newcomers → Type 0
+TellsAtMost most (IfRoom told) = told ≤ most
+TellsAtMost most (Displace told) = told ≤ most
+TellsAtMost most Refused = Unit {0}
+
+-- a call that may begin a session tells so
+abbrev pub KeepsAtMost : {E P : Type 0} → ℕ → Call E P → Type 0
+KeepsAtMost most (Attach newcomers request answer) = TellsAtMost most newcomers
+KeepsAtMost most (Withdraw connection) = Unit {0}
+KeepsAtMost most (Kicked connection answer) = Unit {0}
+KeepsAtMost most (Park session now answer) = Unit {0}
+KeepsAtMost most (ParkAsIs session answer) = Unit {0}
+KeepsAtMost most (Keep session answer) = Unit {0}
+KeepsAtMost most (Bury session answer) = Unit {0}
+KeepsAtMost most (Sweep now answer) = Unit {0}
+KeepsAtMost most (LendPlace slot answer) = Unit {0}
+KeepsAtMost most (TakePlace place answer) = Unit {0}

@@ -7,7 +7,7 @@ use Rattle.std.specs.Prelude.{nat_eq}
 use Rattle.std.specs.FinMap as map
 use Rattle.session_desk.specs.declared.session.Session.{Session}
 use Rattle.session_desk.specs.declared.row.Row.{Row}
-use Rattle.session_desk.specs.Rows.{Rows, HasRow, LivesAs, is_living, session_in, IsKept, IsOverdue, Register}
+use Rattle.session_desk.specs.Rows.{Rows, HasRow, LivesAs, is_living, session_in, IsKept, IsOverdue, Register, most_rows}
 use Rattle.session_desk.specs.Books.{Books}
 
 -- the number that a client's identifier leads to
@@ -31,9 +31,9 @@ register_code {E} {P} code =
 abbrev pub seen : {E P : Type 0} → List (ℕ × Row E P) → Rows E P
 seen entries = map.from_entries entries
 
--- at most 512 rows, and no more names than there are
+-- no more rows than there may be, and no more names than there are
 pub record AreFew {E P : Type 0} (rows : Rows E P) (assigned : ℕ) : Type 0 where
-  pub few : map.len rows ≤ 512
+  pub few : map.len rows ≤ most_rows
   pub names : assigned < 100000000
 
 abbrev pub books_code : {E P : Type 0} → Coded P → Coded (Row E P) → Coded (Books E P)

@@ -1,5 +1,5 @@
 -- Whom a desk begins a session for that has none.
-use Rattle.std.specs.Prelude.{◌≡◌, ◌⊎◌, ℕ, ◌<◌, ◌≤◌, List, Some, None, Result, Ok, Err}
+use Rattle.std.specs.Prelude.{◌≡◌, ◌⊎◌, ℕ, ◌<◌, ◌≤◌, min, List, Some, None, Result, Ok, Err}
 use Rattle.std.specs.FinMap as map
 use Rattle.limits.specs.Limits.{most_sessions}
 use Rattle.session_desk.specs.declared.attached.Attached.{Attached}
@@ -13,19 +13,24 @@ use Rattle.session_desk.specs.declared.newcomers.Room.TheVariants.{Beside, InPla
 use Rattle.session_desk.specs.declared.session.Session.{Session}
 use Rattle.session_desk.specs.declared.row.Row.{Row}
 use Rattle.session_desk.specs.Idle.{IsParkedLongest}
-use Rattle.session_desk.specs.Rows.{Rows, NoneLivesAs}
+use Rattle.session_desk.specs.Rows.{Rows, NoneLivesAs, most_rows}
 use Rattle.session_desk.specs.Books.{Books, new_session, after_new, after_end}
 
--- a newcomer's session has room beside the others: there are fewer than 256 rows
+-- how many rows there may be, where a desk is told to keep so many sessions
+abbrev pub room_for : ℕ → ℕ
+room_for most = min most most_sessions
+
+-- a newcomer's session has room beside the others: there are fewer rows than that
 abbrev pub HasSpace : {E P : Type 0} → Newcomers → Rows E P → Type 0
-HasSpace IfRoom rows = map.len rows < most_sessions
-HasSpace Displace rows = map.len rows < most_sessions
+HasSpace (IfRoom most) rows = map.len rows < room_for most
+HasSpace (Displace most) rows = map.len rows < room_for most
 HasSpace Refused rows = ⊥
 
--- there are 256 rows or more, and the session in this row goes for a newcomer's
+-- there are as many rows or more, and the session in this row goes for a newcomer's
 pub record Goes {E P : Type 0} (newcomers : Newcomers) (rows : Rows E P) (number : ℕ) (row : Row E P) (session : Session E P) : Type 0 where
-  pub displaces : newcomers ≡ Displace
-  pub full : most_sessions ≤ map.len rows
+  pub most : ℕ
+  pub displaces : newcomers ≡ Displace most
+  pub full : room_for most ≤ map.len rows
   pub longest : IsParkedLongest rows number row session
 
 abbrev pub OneGoes : {E P : Type 0} → Newcomers → Rows E P → ℕ → Type 0
@@ -54,7 +59,7 @@ pub record Displaces {E P : Type 0} (newcomers : Newcomers) (old : Books E P) (c
   pub number : ℕ
   pub row : Row E P
   pub goes : Goes newcomers old.rows number row ended
-  pub fits : map.len old.rows < 512
+  pub fits : map.len old.rows < most_rows
   pub is : session ≡ new_session (record { number = old.made; client = client })
   pub after : new ≡ after_new (after_end old number row) client connection
 

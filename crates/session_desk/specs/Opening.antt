@@ -8,6 +8,7 @@ use Rattle.session_desk.specs.declared.sight.Sight.{Sight}
 use Rattle.session_desk.specs.declared.sight.Sight.TheVariants as sight
 use Rattle.session_desk.specs.declared.row.Row.{Row}
 use Rattle.session_desk.specs.declared.row.Holder.TheVariants.{Lent, Parked}
+use Rattle.session_desk.specs.Rows.{most_rows}
 use Rattle.session_desk.specs.Books.{Books, new_session, after_new, after_end}
 use Rattle.session_desk.specs.Attaching.{IsStale}
 
@@ -25,10 +26,10 @@ Opens old client connection (Err errors.Full) new = ⊥
 Opens old client connection (Err errors.NoPlace) new = ⊥
 Opens old client connection (Err errors.NoName) new = ⊥
 
--- the same, where a parked session in this row ends, and there are fewer than 512 rows
+-- the same, where a parked session in this row ends, and there is room for one more
 abbrev pub OpensOver : {E P : Type 0} → Books E P → List ℕ → ℕ → ℕ → Row E P → Result (Session E P × Session E P) DeskError → Books E P → Type 0
 OpensOver old client connection number row (Ok both) new =
-    (row.held_by ≡ Parked both.1) × (map.len old.rows < 512) × (both.0 ≡ new_session (record { number = old.made; client = client })) × (new ≡ after_new (after_end old number row) client connection)
+    (row.held_by ≡ Parked both.1) × (map.len old.rows < most_rows) × (both.0 ≡ new_session (record { number = old.made; client = client })) × (new ≡ after_new (after_end old number row) client connection)
 OpensOver old client connection number row (Err errors.Memory) new = new ≡ old
 OpensOver old client connection number row (Err errors.Full) new = ⊥
 OpensOver old client connection number row (Err errors.NoPlace) new = ⊥

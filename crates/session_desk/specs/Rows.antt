@@ -1,12 +1,17 @@
 -- The rows of a desk: in whose hands each session is.
-use Rattle.std.specs.Prelude.{◌≡◌, ℕ, ◌+◌, ◌≤◌, Bool, true, false, List, Option, None, Some}
+use Rattle.std.specs.Prelude.{◌≡◌, ℕ, ◌+◌, ◌*◌, ◌≤◌, Bool, true, false, List, Option, None, Some}
 use Rattle.std.specs.Ordering.{nat_cmp}
 use Rattle.std.specs.FinMap as map
+use Rattle.limits.specs.Limits.{most_sessions}
 use Rattle.session_desk.specs.Sessions.{Who, IsOver}
 use Rattle.session_desk.specs.declared.session.Session.{Session}
 use Rattle.session_desk.specs.declared.row.Row.{Row}
 use Rattle.session_desk.specs.declared.row.Holder.{Holder}
 use Rattle.session_desk.specs.declared.row.Holder.TheVariants.{Lent, Parked, Kept, Away}
+
+-- how many rows there may be: twice as many as sessions that are lent or parked, since those of sessions that are ending stand beside them
+abbrev pub most_rows : ℕ
+most_rows = 2 * most_sessions
 
 -- the rows by the numbers of their sessions: one of each session that was new and is not buried
 abbrev pub Rows : Type 0 → Type 0 → Type 0

@@ -55,7 +55,7 @@ impl<E, P: Place> Desk<E, P> {
     ghost use Rattle.session_desk.specs.Everything.{HasAll};
     ghost use Rattle.session_desk.specs.Sweeping.{Sweeps, SweepsNothing};
 
-    /// A desk without sessions and without free places. Takes the memory for 512 rows, twice [`MOST_SESSIONS`](limits::MOST_SESSIONS), for
+    /// A desk without sessions and without free places. Takes the memory for 512 rows, twice [`DEFAULT_SESSIONS`](limits::DEFAULT_SESSIONS), for
     /// a wait and a mark of each of [`MOST_CONNECTIONS`](limits::MOST_CONNECTIONS) connections, and for the free places of eight groups.
     ///
     /// # Errors

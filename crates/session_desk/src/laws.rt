@@ -1,6 +1,7 @@
 //! Laws: what holds of every list of calls of a desk. Each is the contract of a function that does nothing. They are
 //! stated over the definitions that the contracts of [`Desk`](crate::Desk) cite, so they are about what its methods do.
-ghost use Rattle.std.specs.Prelude.{◌≡◌, ◌↔◌, ℕ, ◌+◌, ◌<◌, nat_lt, if◌then◌else◌, ◌⊎◌, ◌≢◌, List, [], Some, Result, Ok, Err};
+ghost use Rattle.std.specs.Prelude.{◌≡◌, ◌↔◌, ℕ, ◌+◌, ◌<◌, ◌≤◌, nat_lt, if◌then◌else◌, ◌⊎◌, ◌≢◌, List, [], Some, Result, Ok, Err};
+ghost use Rattle.std.specs.List.{AllByRecursion};
 ghost use Rattle.limits.specs.Limits.{most_connections, most_members};
 ghost use Rattle.session_desk.specs.AskedBack.{IsAskedBack};
 ghost use Rattle.session_desk.specs.Asking.{IsSameQuestion, HadMemory};
@@ -19,12 +20,12 @@ ghost use Rattle.session_desk.specs.declared.error.DeskError.TheVariants.{Full, 
 ghost use Rattle.session_desk.specs.declared.newcomers.Newcomers.{Newcomers};
 ghost use Rattle.session_desk.specs.declared.row.Row.{Row};
 ghost use Rattle.session_desk.specs.declared.session.Session.{Session};
-ghost use Rattle.session_desk.specs.Hands.{handed_out, handed_in, buried, total, outs, rows_of, DeskLaw};
+ghost use Rattle.session_desk.specs.Hands.{handed_out, handed_in, buried, total, outs, rows_of, living_in, KeepsAtMost, DeskLaw};
 
 use crate::places::Place;
 use crate::rule::Rule;
 
-/// **The desk law** is kept by every call, whatever calls are made of a new desk: at most 256 rows are lent or parked, and 512 in all, each of a
+/// **The desk law** is kept by every call, whatever calls are made of a new desk: at most [`MOST_SESSIONS`](limits::MOST_SESSIONS) rows are lent or parked, and twice as many in all, each of a
 /// session that was new; no two that are lent or parked are of one client; what a row keeps is its own session; and no parked
 /// session's window is of an ending one. A desk that keeps it goes on to keep it.
 pub fn desk_law<E, P>()
@@ -32,6 +33,15 @@ pub fn desk_law<E, P>()
         MakesAll cell new_books calls b → DeskLaw b.rows b.made }
     ensures onward { (cell : P → ℕ) (calls : List (Call E P)) (old new : Books E P) →
         DeskLaw old.rows old.made → MakesAll cell old calls new → DeskLaw new.rows new.made }
+{}
+
+/// **A desk keeps as many sessions as it is told to**, at most: where each call of a new desk that asks for a session tells it to keep no more than so
+/// many, no more rows are lent or parked (`kept`); and so it goes on, call by call (`onward`).
+pub fn limit_law<E, P>()
+    ensures kept { (cell : P → ℕ) (most : ℕ) (calls : List (Call E P)) (b : Books E P) →
+        MakesAll cell new_books calls b → AllByRecursion (KeepsAtMost most) calls → living_in b.rows ≤ most }
+    ensures onward { (cell : P → ℕ) (most : ℕ) (call : Call E P) (old new : Books E P) →
+        DeskLaw old.rows old.made → Makes cell old call new → KeepsAtMost most call → living_in old.rows ≤ most → living_in new.rows ≤ most }
 {}
 
 /// **A session is in one pair of hands.** Whatever calls are made of a new desk:

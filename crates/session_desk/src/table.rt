@@ -19,12 +19,15 @@ use crate::sight::{Sight, look};
 use crate::sweeping::{Due, first_idle, oldest, soonest};
 use bytes::Bytes;
 use indexmap::IndexMap;
+use limits::{DEFAULT_SESSIONS, MOST_SESSIONS};
 use std::alloc::{AllocError, Global};
 use std::marker::Model;
 
-/// For how many rows memory is taken at the start: more than there are, since a row that is taken away may leave its room
-/// unusable until the map is laid out anew.
-pub(crate) const ROOM: usize = 512;
+/// How many rows there may be: those of sessions that are ending stand beside as many that are lent or parked.
+pub(crate) const MOST_ROWS: usize = 2 * MOST_SESSIONS as usize;
+
+/// For how many rows memory is taken at the start; for more it is taken as they come.
+const ROOM: usize = 2 * DEFAULT_SESSIONS as usize;
 
 /// The rows of a desk.
 pub(crate) struct Table<E, P> {
@@ -61,7 +64,7 @@ impl<E, P> Table<E, P> {
     ghost use Rattle.session_desk.specs.Names.{IsNextName, NoNameLeft};
     ghost use Rattle.session_desk.specs.Rows.{IsRowOf, IsLentIn, IsAwayIn, NoRowOf};
 
-    /// No rows. Takes the memory for 256 of them.
+    /// No rows. Takes the memory for 512 of them.
     pub(crate) fn new(alloc: Global) -> Result<Table<E, P>, AllocError>
         ensures { IfOk result (λ table. table ≡ record { rows = map.empty; made = 0 }) }
     {

@@ -104,8 +104,11 @@ module _ (old new : Books Held GroupPlace) (all : HasAllPlaces old) where
   no_row : (number : ℕ) (row : Row Held GroupPlace) → HasRow old.rows number row → ⊥
   no_row number row has = none-some row (sym (get-empty {X = Row Held GroupPlace} nat_cmp number) ∙ ap (λ (rows : Rows Held GroupPlace). map.get rows number) (sym bare) ∙ has)
 
-  not_full : ¬ HasRoom IfRoom old.rows → ⊥
-  not_full full = full (inl (let none = ap map.len bare ∙ len-empty nat_cmp (Row Held GroupPlace) in omega (arith, none)))
+  not_full : ¬ HasRoom (IfRoom 256) old.rows → ⊥
+  not_full full =
+      let none = ap map.len bare ∙ len-empty nat_cmp (Row Held GroupPlace) in
+      let less : map.len old.rows < 256 = omega (arith, none) in
+      full (inl less)
 
   begins : (client : List ℕ) (other : Books Held GroupPlace) → other ≡ after_new old client 0 → IsLentAs other.rows (record { number = old.made; client = client }) × (slice_get other.kicked 0 ≡ Some false) × (other.free ≡ old.free)
   begins client other is = (
@@ -120,7 +123,7 @@ module _ (old new : Books Held GroupPlace) (all : HasAllPlaces old) where
     ap (λ (b : Books Held GroupPlace). b.free) is,
   )
 
-  named : (client : List ℕ) (request : Request) (answer : Result (Attached Held GroupPlace) DeskError) → request.connection ≡ 0 → answer ≢ Err errors.Memory → attaches_by IfRoom client old request answer new → IsFirst client answer old new
+  named : (client : List ℕ) (request : Request) (answer : Result (Attached Held GroupPlace) DeskError) → request.connection ≡ 0 → answer ≢ Err errors.Memory → attaches_by (IfRoom 256) client old request answer new → IsFirst client answer old new
   named (byte ∷ bytes) request (Ok (New session None)) first memory does =
       let b = begins (byte ∷ bytes) new (does.after ∙ ap (after_new old (byte ∷ bytes)) first) in
       record {
@@ -132,7 +135,7 @@ module _ (old new : Books Held GroupPlace) (all : HasAllPlaces old) where
         name = refl;
       }
   named (byte ∷ bytes) request (Ok (New session (Some over))) first memory does =
-      let h = begun_over IfRoom old new request session (byte ∷ bytes) over does in absurd (no_row h.number h.row h.has)
+      let h = begun_over (IfRoom 256) old new request session (byte ∷ bytes) over does in absurd (no_row h.number h.row h.has)
   named (byte ∷ bytes) request (Ok (Resumed session)) first memory does = absurd (no_row does.number does.row does.its.has)
   named (byte ∷ bytes) request (Ok (Replace holder)) first memory does = absurd (no_row does.number does.row does.its.has)
   named (byte ∷ bytes) request (Ok Busy) first memory does = absurd (no_row does.0.number does.0.row does.0.its.has)
@@ -162,7 +165,7 @@ module _ (old new : Books Held GroupPlace) (all : HasAllPlaces old) where
         name = ap (λ (n : ℕ). assigned [] (record { number = old.made; client = assigned_name n })) one ∙ first_name old.made;
       }
   named [] request (Ok (New session (Some over))) first memory does =
-      let h = begun_over IfRoom old new request session [] over does in absurd (no_row h.number h.row h.has)
+      let h = begun_over (IfRoom 256) old new request session [] over does in absurd (no_row h.number h.row h.has)
   named [] request (Ok (Resumed session)) first memory does = absurd does
   named [] request (Ok (Replace holder)) first memory does = absurd does
   named [] request (Ok Busy) first memory does = absurd does

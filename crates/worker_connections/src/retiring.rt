@@ -4,7 +4,7 @@ ghost use Rattle.worker_connections.specs.Retiring.{RetiresDue};
 
 use broker_groups::Broker;
 use call_history::HistoryName;
-use conn_engine::sweep;
+use conn_engine::retire_due;
 use conn_supply::Supply;
 use shared_supply::SharedSupply;
 use std::sync::Wait;
@@ -19,7 +19,7 @@ pub(crate) fn retire_in_visit<'a, 'g, B: Broker, N: HistoryName, R: Wait>(
     ensures parts { supply.new.desk.parts ≡ supply.old.desk.parts }
 {
     if supply.begin() {
-        sweep(supply, now);
+        retire_due(supply, now);
     }
     supply.end();
 }

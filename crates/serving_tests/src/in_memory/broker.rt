@@ -11,6 +11,7 @@ use conn_rules::{ClientLimits, MaxInflight};
 use gate_word::{Gate, GateSeat};
 use group_jobs::{Envelope, Report};
 use group_queue::Nobody;
+use limits::DEFAULT_SESSIONS;
 use scripted_transport::Scripted;
 use session_desk::Newcomers;
 use shared_desk::OpenedDesk;
@@ -205,7 +206,7 @@ fn live<
     requires seats { AreSeatsOf gate.now seats.items × (length seats.items ≡ workers + 2) }
     requires opened { IsOfBroker M.gate M.group workers opened }
 {
-    match OpenedDesk::open(alloc, Newcomers::Displace) {
+    match OpenedDesk::open(alloc, Newcomers::Displace(DEFAULT_SESSIONS)) {
         Ok(desk) => live_with::<Witnessed<M, Nobody>, Brand, S, R>(
             rt, alloc, gate, seats, opened, desk, workers, source,
         ),

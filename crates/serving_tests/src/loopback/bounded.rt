@@ -1,4 +1,4 @@
-//! A broker of which an address has a bounded number of connections.
+//! A broker of which an address has a bounded number of connections, and one that keeps a bounded number of sessions.
 use crate::day::{Counts, Day, Listener, live};
 use crate::link::{ends, open, say, send};
 use crate::loopback::clients::counts_of;
@@ -36,42 +36,88 @@ impl Day for Bounded {
         alloc: Global,
         _closes: &AtomicBool,
     ) -> Result<Counts, Wrong> {
-        let mut staying = open(rt, PORT)?;
-        say(
-            &mut staying,
-            alloc,
-            &frames::connect(b'1'),
-            &frames::CONNACK,
-        )?;
-        let mut leaving = open(rt, PORT)?;
-        say(
-            &mut leaving,
-            alloc,
-            &frames::connect(b'2'),
-            &frames::CONNACK,
-        )?;
+        let _staying = served(rt, alloc, PORT, b'1')?;
+        let mut leaving = served(rt, alloc, PORT, b'2')?;
         let mut third = open(rt, PORT)?;
         ends(&mut third)?;
         send(&mut leaving, b"\xE0\x00")?;
         ends(&mut leaving)?;
-        be_served(rt, alloc)?;
+        be_served(rt, alloc, PORT)?;
         Ok(counts_of(0, 0, 0))
     }
+}
+
+/// A client of this name that is served.
+fn served<R: Net<Listener = TcpListener, Stream = TcpStream> + Clock>(
+    rt: &R,
+    alloc: Global,
+    port: u16,
+    name: u8,
+) -> Result<TcpStream, Wrong> {
+    let mut stream = open(rt, port)?;
+    say(&mut stream, alloc, &frames::connect(name), &frames::CONNACK)?;
+    Ok(stream)
 }
 
 /// A further client tries until it is served.
 fn be_served<R: Net<Listener = TcpListener, Stream = TcpStream> + Clock>(
     rt: &R,
     alloc: Global,
+    port: u16,
 ) -> Result<(), Wrong> {
     for _ in 0..TRIES {
-        let mut stream = open(rt, PORT)?;
-        if say(&mut stream, alloc, &frames::connect(b'3'), &frames::CONNACK).is_ok() {
+        if served(rt, alloc, port, b'3').is_ok() {
             return Ok(());
         }
         thread::sleep(rt, Duration::from_millis(PAUSE));
     }
     Err(Wrong::Connects)
+}
+
+const FULL_PORT: u16 = 18_842;
+
+/// Two clients have a session, and a third is told that the server is busy; it has one once one of the two has left.
+#[derive(Drop)]
+struct Full;
+
+impl Day for Full {
+    fn broker(&self) -> Listener {
+        Listener {
+            sessions: 2,
+            ..Listener::at(FULL_PORT, 2)
+        }
+    }
+
+    fn pass<R: Net<Listener = TcpListener, Stream = TcpStream> + Clock>(
+        &self,
+        rt: &R,
+        alloc: Global,
+        _closes: &AtomicBool,
+    ) -> Result<Counts, Wrong> {
+        let mut staying = served(rt, alloc, FULL_PORT, b'1')?;
+        let mut leaving = served(rt, alloc, FULL_PORT, b'2')?;
+        let mut third = open(rt, FULL_PORT)?;
+        say(
+            &mut third,
+            alloc,
+            &frames::connect(b'3'),
+            &frames::SERVER_BUSY,
+        )?;
+        ends(&mut third)?;
+        send(&mut leaving, b"\xE0\x00")?;
+        ends(&mut leaving)?;
+        be_served(rt, alloc, FULL_PORT)?;
+        send(&mut staying, b"\xE0\x00")?;
+        Ok(counts_of(0, 0, 0))
+    }
+}
+
+#[test]
+fn so_many_sessions_are_kept(rt: HostRuntime) {
+    let night = live(&rt, rt.alloc(), &Full);
+    assert_eq!(&rt; night.saw.map(|_| ()), Ok(()));
+    assert!(rt; night.ended.is_ok());
+    assert!(rt; night.output.as_slice() == b"listening 18842\n".as_slice());
 }
 
 #[test]

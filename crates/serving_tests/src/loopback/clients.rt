@@ -5,6 +5,7 @@ use crate::loopback::frames;
 use crate::wrong::Wrong;
 use broker_log::{Level, Log};
 use conn_rules::{ClientLimits, MaxInflight};
+use limits::DEFAULT_SESSIONS;
 use mqtt_topic::Routes;
 use session_desk::Newcomers;
 use shared_routes::NewShares;
@@ -324,7 +325,7 @@ fn served_twice<R: Threads + Wait + Net<Listener = TcpListener, Stream = TcpStre
             workers: 1,
             limits: ClientLimits::inflight_alone(MaxInflight::most()),
             drain: 0,
-            newcomers: Newcomers::Displace,
+            newcomers: Newcomers::Displace(DEFAULT_SESSIONS),
             new_shares: NewShares::Bound,
             per_address: 0,
         },

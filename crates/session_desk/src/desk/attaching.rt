@@ -9,14 +9,13 @@ use crate::attached::Attached;
 use crate::error::DeskError;
 use crate::marks::{note, waits_for};
 use crate::names::assigned;
-use crate::newcomers::{Newcomers, Room};
+use crate::newcomers::{Newcomers, Room, room_for};
 use crate::places::Place;
 use crate::row::Holder;
 use crate::session::Session;
 use crate::sight::Sight;
-use crate::table::ROOM;
+use crate::table::MOST_ROWS;
 use bytes::Bytes;
-use limits::MOST_SESSIONS;
 use member_window::Window;
 
 impl<E, P: Place> Desk<E, P> {
@@ -114,9 +113,10 @@ impl<E, P: Place> Desk<E, P> {
     {
         match newcomers {
             Newcomers::Refused => Room::Nowhere,
-            _ if self.table.len() < MOST_SESSIONS => Room::Beside,
-            Newcomers::IfRoom => Room::Nowhere,
-            Newcomers::Displace => match self.table.parked_longest() {
+            Newcomers::IfRoom(most) | Newcomers::Displace(most)
+                if self.table.len() < room_for(most) => { Room::Beside }
+            Newcomers::IfRoom(_) => Room::Nowhere,
+            Newcomers::Displace(_) => match self.table.parked_longest() {
                 Some(number) => Room::InPlaceOf(number),
                 None => Room::Nowhere,
             },
@@ -188,7 +188,7 @@ impl<E, P: Place> Desk<E, P> {
         ensures { (row : Row E P) → HasRow self.old.rows number row →
             OpensOver self.old client.now connection number row result self.new }
     {
-        if self.table.len() >= ROOM {
+        if self.table.len() >= MOST_ROWS {
             return Err(DeskError::Memory);
         }
         let Ok(window) = Window::new(self.alloc) else {
@@ -235,7 +235,7 @@ impl<E, P: Place> Desk<E, P> {
         ensures { (row : Row E P) → HasRow self.old.rows number row →
             OpensOver self.old client.now connection number row result self.new }
     {
-        if self.table.len() >= ROOM {
+        if self.table.len() >= MOST_ROWS {
             return Err(DeskError::Memory);
         }
         let Ok(window) = Window::new(self.alloc) else {

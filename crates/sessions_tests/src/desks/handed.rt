@@ -2,6 +2,7 @@
 //! that each test passes with any one allocation refused: a refusal leaves the desk as it was.
 use crate::spot::Spot;
 use bytes::Bytes;
+use limits::DEFAULT_SESSIONS;
 use session_desk::{All, Attached, Desk, DeskError, Membership, Newcomers, Session};
 use std::alloc::Global;
 use std::mem;
@@ -39,7 +40,15 @@ pub fn ask(
     clean: bool,
     now: u64,
 ) -> Handed {
-    ask_as(rt, desk, Newcomers::IfRoom, connection, client, clean, now)
+    ask_as(
+        rt,
+        desk,
+        Newcomers::IfRoom(DEFAULT_SESSIONS),
+        connection,
+        client,
+        clean,
+        now,
+    )
 }
 
 /// Asks for a session.

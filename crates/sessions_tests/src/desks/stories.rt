@@ -6,6 +6,7 @@ use crate::desks::handed::{
 };
 use crate::spot::Spot;
 use bytes::Bytes;
+use limits::DEFAULT_SESSIONS;
 use session_desk::{Membership, Newcomers};
 use std::alloc::Global;
 use std::process::Abort;
@@ -252,7 +253,15 @@ fn displaced(rt: HostRuntime) -> Result<(), Fail> {
     assert_same(&rt, &refused, &Answer::Refused(701));
     let (new, ended) = both(
         &rt,
-        ask_as(&rt, &mut desk, Newcomers::Displace, 1, &further, false, 10),
+        ask_as(
+            &rt,
+            &mut desk,
+            Newcomers::Displace(DEFAULT_SESSIONS),
+            1,
+            &further,
+            false,
+            10,
+        ),
     );
     assert_items(&rt, ended.identity.client().as_slice(), fourth.as_slice());
     bury(&rt, &mut desk, Some(ended));
@@ -260,12 +269,28 @@ fn displaced(rt: HostRuntime) -> Result<(), Fail> {
     // There is room again: none goes.
     let new = only(
         &rt,
-        ask_as(&rt, &mut desk, Newcomers::Displace, 1, &none, false, 12),
+        ask_as(
+            &rt,
+            &mut desk,
+            Newcomers::Displace(DEFAULT_SESSIONS),
+            1,
+            &none,
+            false,
+            12,
+        ),
         Answer::New,
     );
     let (named, ended) = both(
         &rt,
-        ask_as(&rt, &mut desk, Newcomers::Displace, 2, &none, false, 13),
+        ask_as(
+            &rt,
+            &mut desk,
+            Newcomers::Displace(DEFAULT_SESSIONS),
+            2,
+            &none,
+            false,
+            13,
+        ),
     );
     assert_items(
         &rt,
@@ -281,6 +306,38 @@ fn displaced(rt: HostRuntime) -> Result<(), Fail> {
 }
 
 #[test]
+fn as_many_as_it_is_told_to_keep(rt: HostRuntime) -> Result<(), Fail> {
+    let first = client_of(&rt, rt.alloc(), 0);
+    let second = client_of(&rt, rt.alloc(), 1);
+    let third = client_of(&rt, rt.alloc(), 2);
+    let mut desk = open(&rt, rt.alloc());
+    let one = Newcomers::IfRoom(1);
+    let session = only(
+        &rt,
+        ask_as(&rt, &mut desk, one, 1, &first, false, 0),
+        Answer::New,
+    );
+    park(&rt, &mut desk, session, 600, 0);
+    let refused = nothing(&rt, ask_as(&rt, &mut desk, one, 2, &second, false, 1));
+    assert_same(&rt, &refused, &Answer::Refused(701));
+    let many = Newcomers::IfRoom(u32::MAX);
+    let more = only(
+        &rt,
+        ask_as(&rt, &mut desk, many, 2, &second, false, 1),
+        Answer::New,
+    );
+    leave(&rt, &mut desk, more, 2);
+    // There are as many as one again, and the one that is parked goes.
+    let displacing = Newcomers::Displace(1);
+    let (new, ended) = both(&rt, ask_as(&rt, &mut desk, displacing, 3, &third, false, 3));
+    assert_items(&rt, ended.identity.client().as_slice(), first.as_slice());
+    bury(&rt, &mut desk, Some(ended));
+    leave(&rt, &mut desk, new, 4);
+    assert_same(&rt, &end(&rt, desk), &(0, 0));
+    Ok(())
+}
+
+#[test]
 fn none_goes_that_is_in_use(rt: HostRuntime) -> Result<(), Fail> {
     let further = client_of(&rt, rt.alloc(), 256);
     let known = client_of(&rt, rt.alloc(), 7);
@@ -292,7 +349,15 @@ fn none_goes_that_is_in_use(rt: HostRuntime) -> Result<(), Fail> {
     }
     let refused = nothing(
         &rt,
-        ask_as(&rt, &mut desk, Newcomers::Displace, 1, &further, false, 2),
+        ask_as(
+            &rt,
+            &mut desk,
+            Newcomers::Displace(DEFAULT_SESSIONS),
+            1,
+            &further,
+            false,
+            2,
+        ),
     );
     assert_same(&rt, &refused, &Answer::Refused(701));
     let resumed = only(

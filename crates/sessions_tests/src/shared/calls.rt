@@ -8,6 +8,7 @@ use crate::spot::Spot;
 use bytes::Bytes;
 use call_history::HistoryName;
 use group_jobs::Envelope;
+use limits::DEFAULT_SESSIONS;
 use session_desk::{Attached, DeskError, Newcomers, Session};
 use shared_desk::{DeskCaller, OpenedDesk, SharedDesk};
 use std::marker::Brand;
@@ -97,7 +98,7 @@ fn takeover_day<D: HistoryName, R: Wait>(rt: &R, opened: OpenedDesk<Spot>) -> (b
 
 #[test]
 fn who_is_asked_for_its_session_is_kicked(rt: HostRuntime) -> Result<(), Fail> {
-    let opened = OpenedDesk::open(rt.alloc(), Newcomers::IfRoom)?;
+    let opened = OpenedDesk::open(rt.alloc(), Newcomers::IfRoom(DEFAULT_SESSIONS))?;
     let told = takeover_day::<Brand, _>(&rt, opened);
     assert_same(&rt, &told, &(false, true, false));
     Ok(())
@@ -117,7 +118,7 @@ fn two_visits<D: HistoryName, R: Wait>(rt: &R, opened: OpenedDesk<Spot>) -> (boo
 
 #[test]
 fn a_client_comes_again(rt: HostRuntime) -> Result<(), Fail> {
-    let opened = OpenedDesk::open(rt.alloc(), Newcomers::IfRoom)?;
+    let opened = OpenedDesk::open(rt.alloc(), Newcomers::IfRoom(DEFAULT_SESSIONS))?;
     let (first, second) = two_visits::<Brand, _>(&rt, opened);
     assert!(rt; first && second);
     Ok(())
@@ -149,7 +150,7 @@ fn places_day<D: HistoryName, R: Wait>(rt: &R, opened: OpenedDesk<Spot>) -> [Opt
 
 #[test]
 fn the_least_free_place_is_lent(rt: HostRuntime) -> Result<(), Fail> {
-    let opened = OpenedDesk::open(rt.alloc(), Newcomers::IfRoom)?;
+    let opened = OpenedDesk::open(rt.alloc(), Newcomers::IfRoom(DEFAULT_SESSIONS))?;
     let lent = places_day::<Brand, _>(&rt, opened);
     assert_same(
         &rt,
@@ -161,6 +162,6 @@ fn the_least_free_place_is_lent(rt: HostRuntime) -> Result<(), Fail> {
 
 #[test]
 fn a_desk_that_nobody_shared(rt: HostRuntime) -> Result<(), Fail> {
-    OpenedDesk::<Spot>::open(rt.alloc(), Newcomers::IfRoom)?.abandon();
+    OpenedDesk::<Spot>::open(rt.alloc(), Newcomers::IfRoom(DEFAULT_SESSIONS))?.abandon();
     Ok(())
 }

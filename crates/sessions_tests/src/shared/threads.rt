@@ -7,6 +7,7 @@ use crate::shared::calls::{comes_and_goes, end};
 use crate::spot::Spot;
 use bytes::Bytes;
 use call_history::HistoryName;
+use limits::DEFAULT_SESSIONS;
 use session_desk::Newcomers;
 use shared_desk::{DeskCaller, OpenedDesk, SharedDesk};
 use std::marker::Brand;
@@ -59,7 +60,7 @@ fn is_shared_by_threads<T: Sync>() {}
 
 #[test]
 fn two_clients_at_once(rt: HostRuntime) -> Result<(), Fail> {
-    let opened = OpenedDesk::open(rt.alloc(), Newcomers::IfRoom)?;
+    let opened = OpenedDesk::open(rt.alloc(), Newcomers::IfRoom(DEFAULT_SESSIONS))?;
     let counts = both::<Brand, _>(&rt, opened);
     assert_same(&rt, &counts, &(200, 200));
     Ok(())

@@ -12,6 +12,7 @@ use call_history::HistoryName;
 use conn_supply::Supply;
 use gate_word::{Gate, GateSeat};
 use group_queue::Nobody;
+use limits::DEFAULT_SESSIONS;
 use session_desk::Newcomers;
 use shared_desk::OpenedDesk;
 use shared_supply::SharedBroker;
@@ -159,7 +160,7 @@ fn live<M: BrokerName + Send + Sync, C: Crew + Sync, R: Threads + Wait + Sync>(
     requires opened { IsOfBroker M.gate M.group workers opened }
     requires workers { workers ≤ 63 }
 {
-    match OpenedDesk::open(alloc, Newcomers::Displace) {
+    match OpenedDesk::open(alloc, Newcomers::Displace(DEFAULT_SESSIONS)) {
         Ok(desk) => live_with::<Witnessed<M, Nobody>, Brand, C, R>(
             rt, alloc, gate, seats, opened, desk, workers, crew,
         ),

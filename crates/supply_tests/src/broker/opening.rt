@@ -7,6 +7,7 @@ use broker_groups::{Broker, BrokerName, BrokerPlace, Key, Named, Opened, Ports, 
 use call_history::HistoryName;
 use gate_word::{Gate, GateSeat};
 use group_queue::Nobody;
+use limits::DEFAULT_SESSIONS;
 use session_desk::Newcomers;
 use shared_desk::{DeskCaller, OpenedDesk, SharedDesk};
 use shared_routes::{NewShares, SharedRoutes};
@@ -160,7 +161,7 @@ fn live<M: BrokerName, D: Day, R: Wait>(
     requires opened { IsOfBroker M.gate M.group workers opened }
     requires workers { workers ≤ 63 }
 {
-    match OpenedDesk::open(alloc, Newcomers::Displace) {
+    match OpenedDesk::open(alloc, Newcomers::Displace(DEFAULT_SESSIONS)) {
         Ok(desk) => live_with::<Witnessed<M, Nobody>, Brand, D, R>(
             rt, alloc, gate, seats, opened, desk, workers, day,
         ),

@@ -11,6 +11,7 @@ returns c =
       c.in_ok-workers.ensures,
       c.in_ok-drain.ensures,
       c.in_ok-metrics.ensures,
+      c.in_ok-sessions.ensures,
       c.in_ok-per_address.ensures,
       subst (HasNumberIf (codes "max-expiry") 1 4294967295 rows) (sym c.expiry_of.ensures) c.in_ok-max_expiry.ensures,
       subst (HasNumberIf (codes "max-keep-alive") 1 65535 rows) (sym c.keep_alive_of.ensures) c.in_ok-max_keep_alive.ensures,
@@ -29,6 +30,9 @@ returns-in_err-drain c = rw c.from_residual-in_err-drain.ensures (λ service by.
 
 pub returns-in_err-metrics : goal.returns-in_err-metrics
 returns-in_err-metrics c = rw c.from_residual-in_err-metrics.ensures (λ service by. c.in_err-metrics.ensures service.metrics by.metrics)
+
+pub returns-in_err-sessions : goal.returns-in_err-sessions
+returns-in_err-sessions c = rw c.from_residual-in_err-sessions.ensures (λ service by. c.in_err-sessions.ensures service.sessions by.sessions)
 
 pub returns-in_err-per_address : goal.returns-in_err-per_address
 returns-in_err-per_address c = rw c.from_residual-in_err-per_address.ensures (λ service by. c.in_err-per_address.ensures service.per_address by.per_address)

@@ -31,14 +31,15 @@ returns-in-Ok-clause-ok c =
       drain = c.in-Some-numbers_of.ensures.2;
       metrics = c.in-Some-numbers_of.ensures.3;
       log = c.in-Some-level_of.ensures;
+      sessions = c.in-Some-numbers_of.ensures.4;
       keep_parked = c.in-Some-flag_of.ensures;
       declared_groups = c.in-Some-flag_of-2.ensures;
-      per_address = c.in-Some-numbers_of.ensures.4;
-      max_expiry = c.in-Some-numbers_of.ensures.5;
-      max_keep_alive = c.in-Some-numbers_of.ensures.6;
+      per_address = c.in-Some-numbers_of.ensures.5;
+      max_expiry = c.in-Some-numbers_of.ensures.6;
+      max_keep_alive = c.in-Some-numbers_of.ensures.7;
       users = c.in_ok-users.ensures;
-      capacity = c.in-Some-numbers_of.ensures.7;
-      max_inflight = c.in-Some-numbers_of.ensures.8;
+      capacity = c.in-Some-numbers_of.ensures.8;
+      max_inflight = c.in-Some-numbers_of.ensures.9;
       groups = subst (λ texts. AddsEach [] texts c.in-Ok.groups) pairs all;
     }
 

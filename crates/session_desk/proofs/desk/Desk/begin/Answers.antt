@@ -16,6 +16,7 @@ returns-in-Ok-open_displacing g c =
       number = c.in-InPlaceOf.number;
       row = row;
       goes = record {
+        most = goes.most;
         displaces = goes.displaces;
         full = goes.full;
         longest = subst (IsParkedLongest old.rows c.in-InPlaceOf.number row) (same_parked room.1 c.in-Ok-open_displacing.ended (sym goes.longest.stands ∙ opens.0)) goes.longest;

@@ -20,7 +20,7 @@ returns-in-Ok-begin_displacing g c = λ row has.
     let i = c.self.inside in
     let e = c.in-Ok-begin_displacing.ensures.ok row (ap (λ b. map.get b.rows c.args.number) c.self.view_is ∙ has) in (
       e.0,
-      subst (λ b. map.len b.rows < 512) c.self.view_is (let len = c.len.ensures in omega arith),
+      subst (λ b. map.len b.rows < 131072) c.self.view_is (let len = c.len.ensures in omega arith),
       c.new-in-Ok-begin_displacing.ensures ∙ ap (λ w. new_session w) (e.1 ∙ ap (λ b. next_of b c.args.client.now) c.self.view_is),
       (λ j. booked (e.2 j) i.assigned (c.note.ensures j) (c.note-in-Ok-begin_displacing.ensures j) i.free)
           ∙ ap (λ b. after_new (after_end b c.args.number row) c.args.client.now c.args.connection) c.self.view_is,
