@@ -39,6 +39,14 @@ class Language:
         return done.stdout.splitlines(), done.returncode
 
 
+class WorkerOfBrokers(Language):
+    """The worker for several brokers: it is called with the ports of all of them."""
+
+    def work(self, ports):
+        words = [*self.worker, "worker", *(f"127.0.0.1:{port}" for port in ports)]
+        return subprocess.Popen(words, env=self.environment, stdout=subprocess.PIPE, stderr=subprocess.DEVNULL)
+
+
 class Lines:
     """What a worker prints."""
 
@@ -112,18 +120,20 @@ def joined(language, port):
 
 
 class Case:
-    """A case of a language: its broker and its workers, which end with it."""
+    """A case of a language: its brokers, of which it names the latest, and its workers, which end with it."""
 
     def __init__(self, start, expect, is_profile):
         self.start = start
         self.expect = expect
         self.is_profile = is_profile
         self.broker = None
+        self.brokers = []
         self.workers = []
 
     def open(self, *words):
         """Starts a broker, and returns its port."""
         self.broker = self.start(words)
+        self.brokers.append(self.broker)
         return self.broker.port
 
     def work(self, language, port):
@@ -143,9 +153,9 @@ class Case:
         for process in self.workers:
             process.kill()
             process.wait(PATIENCE)
-        if self.broker:
-            self.broker.process.kill()
-            self.broker.process.wait(PATIENCE)
+        for broker in self.brokers:
+            broker.process.kill()
+            broker.process.wait(PATIENCE)
 
 
 def does_each(case, language):
@@ -238,6 +248,34 @@ def passes_on(case, language):
     case.reports((3, 3, 0, 0, 0, 0, 0), (2, 2, 0, 0, 0, 0, 0))
 
 
+def works_for_two(case, language):
+    first, second = (case.open("--group", "workers:jobs") for _ in range(2))
+    relays = [Relay(first), Relay(second)]
+    worker = case.work(WorkerOfBrokers("", [CLIENTS / "python" / "worker_of_brokers.py"], []), [relay.port for relay in relays])
+    case.expect("what the publishers saw", language.publish(first, "a") + language.publish(second, "b"), (["0x00 a"], 0, ["0x00 b"], 0))
+    worker.until("done a")
+    case.expect("what the worker did", sorted(worker.until("done b")), ["a", "b"])
+    # time for its PUBACK; then one broker is killed, and the worker goes on with the other
+    time.sleep(0.5)
+    case.brokers[0].process.kill()
+    case.brokers[0].process.wait(PATIENCE)
+    case.expect("what the publisher saw", language.publish(second, "c"), (["0x00 c"], 0))
+    case.expect("what the worker did", sorted(worker.until("done c")), ["a", "b", "c"])
+    relays[0].port_behind = case.open("--group", "workers:jobs")
+    case.expect("what the publisher saw", language.publish(case.broker.port, "d"), (["0x00 d"], 0))
+    case.expect("what the worker did", sorted(worker.until("done d")), ["a", "b", "c", "d"])
+    case.reports((1, 1, 0, 0, 0, 0, 0))
+    case.broker = case.brokers[1]
+    case.reports((2, 2, 0, 0, 0, 0, 0))
+
+
+def is_no_member_of_one(case, _language):
+    groups = [word for number in range(8) for word in ("--group", f"others:{number}")]
+    ports = [case.open(), case.open(*groups)]
+    worker = case.work(WorkerOfBrokers("", [CLIENTS / "python" / "worker_of_brokers.py"], []), ports)
+    case.expect("whether it ends with 1", worker.process.wait(PATIENCE), 1)
+
+
 def no_member(case, language):
     groups = [word for number in range(8) for word in ("--group", f"others:{number}")]
     worker = case.work(language, case.open(*groups))
@@ -264,6 +302,8 @@ CASES = (
     ("its worker ends where its SUBSCRIBE is refused, since there are eight other groups", no_member, False, ("Python", "JavaScript", "C")),
     ("its worker refuses a job that it cannot do, and it does not come again", refuses, False, ("JavaScript",)),
     ("a worker passes on what it cannot do to a second group", passes_on, False, ("Python",)),
+    ("a worker of two brokers works for one while the other is away, and comes back to that", works_for_two, False, ("Python",)),
+    ("a worker of two brokers ends where one of them refuses its SUBSCRIBE", is_no_member_of_one, False, ("Python",)),
 )
 
 
