@@ -1,4 +1,4 @@
-"""MQTT 5.0 packets byte by byte, and a broker that is started and ended: what `tools/fleet`, `tools/ends`, `tools/refuse-memory`, `tools/spread` and `tools/attack` share."""
+"""MQTT 5.0 packets byte by byte, and a broker that is started and ended: what `tools/fleet`, `tools/ends`, `tools/refuse-memory`, `tools/spread`, `tools/attack` and `tools/fleet-of-brokers` share."""
 import os
 import re
 import select
@@ -108,12 +108,12 @@ def free_port():
 
 
 class Broker:
-    """`PROGRAM serve` at a port that the system chooses, with what it prints. The port is 0 where it does not listen."""
+    """`PROGRAM serve` at a port that the system chooses where none is given, with what it prints. The port is 0 where it does not listen."""
 
-    def __init__(self, program, *words, patience=20, environment=None, output=subprocess.PIPE, before=None):
+    def __init__(self, program, *words, port=0, patience=20, environment=None, output=subprocess.PIPE, before=None):
         self.port = 0
         self.process = subprocess.Popen(
-            [os.path.realpath(program), "serve", "--port", "0", *words],
+            [os.path.realpath(program), "serve", "--port", str(port), *words],
             stdin=subprocess.PIPE, stdout=output, stderr=subprocess.PIPE, env=environment, preexec_fn=before,
         )
         self.first = b""
