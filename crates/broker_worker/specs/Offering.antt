@@ -1,5 +1,6 @@
 -- In a sweep something is offered to the members of each group: one that reads and has room may be handed a message then, whatever the other workers have.
 use Rattle.std.specs.Prelude.{◌≡◌, ◌⊎◌, ℕ, ◌<◌, ◌≤◌, List, length, Option, ⊤}
+use Rattle.limits.specs.Limits.{most_groups}
 use Rattle.transport.specs.declared.counts.Counts.{Counts}
 use Rattle.group_queue.specs.Ports.{GroupId}
 use Rattle.broker_groups.specs.Answers.{Sights}
@@ -48,7 +49,7 @@ module _ {T : Type 0} (group : ℕ → GroupId) (seen : Sights) (counts : T → 
 
   -- the same of each group
   abbrev pub OffersEach : ConnectionsState T → ConnectionsState T → Type 0
-  OffersEach old new = (slot : ℕ) → slot < 8 → Amid (Offers slot) old new
+  OffersEach old new = (slot : ℕ) → slot < most_groups → Amid (Offers slot) old new
 
   -- where a sweep began in a turn of a worker, it was so at a moment of that turn
   abbrev pub OffersInSweep : ConnectionsState T → ConnectionsState T → Type 0

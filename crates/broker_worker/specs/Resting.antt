@@ -1,5 +1,6 @@
 -- When a worker waits: it told the others what it did, listens wherever a job could come that it would hand out, and goes on in time.
 use Rattle.std.specs.Prelude.{◌≡◌, ◌⊎◌, ℕ, ◌<◌, ◌+◌, Bool, List, [], ◌∷◌, length}
+use Rattle.limits.specs.Limits.{most_groups}
 use Rattle.shared_supply.specs.Waking.{no_wakes}
 use Rattle.shared_supply.specs.declared.wakes.Wakes.{Wakes}
 use Rattle.worker_bells.specs.Ringing.{ListeningState, HasSettledAt, HearsAt, WorkerBellsState}
@@ -16,7 +17,7 @@ pub record WorkerState (T : Type 0) : Type 0 where
 -- between its listening and its settling; and goes on with its connections in time
 pub record IsAtRest {T : Type 0} (pause : ℕ) (worker : WorkerState T) : Type 0 where
   pub told : wakes_of worker.connections ≡ no_wakes
-  pub idle : (slot : ℕ) → slot < 8 → HasTaker slot worker.connections.cells → HasSettledAt worker.bells.listenings slot
+  pub idle : (slot : ℕ) → slot < most_groups → HasTaker slot worker.connections.cells → HasSettledAt worker.bells.listenings slot
   pub in_time : WaitsInTime pause worker.connections.sweeps.latest worker.connections.sweeps.swept
 
 -- it waits only where it is at rest

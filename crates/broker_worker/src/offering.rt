@@ -1,5 +1,6 @@
 //! What is offered to the members of each group in a sweep, whatever the others have: so no hint that is out of date lets a message wait for longer.
 ghost use Rattle.std.specs.Prelude.{◌≡◌, ◌<◌, true, false, Some, length};
+ghost use Rattle.limits.specs.Limits.{most_groups};
 ghost use Rattle.conn_service.specs.declared.served.Round.{Round as AnyRound};
 ghost use Rattle.broker_worker.specs.Offering.{GoesOn, IsAsked, IsOffered, Offers, OffersEach};
 ghost use Rattle.worker_connections.specs.Serving.{Rounds};
@@ -44,7 +45,7 @@ impl<'a, 'g, B: Broker, N: HistoryName, T: Transport + Drop, Q: Poller<T> + Drop
 
     /// Offers a message to a member of a group that reads and has room: to the one that has the fewest, or where that does not read to another one.
     fn offer(&mut self, slot: usize, buffer: &mut [u8; READ_SIZE])
-        requires { slot < 8 }
+        requires { slot < most_groups }
         ensures goes { Rounds self.old.connections self.new.connections }
         ensures offered { Offers B.group B.Seen.Witness T.counts T.given T.accepted slot self.old.connections self.new.connections }
     {

@@ -1,10 +1,12 @@
 //! What a worker knows of the members of a group, its own and the other workers', and how many of the messages that wait are for its own: those that have the fewest come first.
 ghost use Rattle.std.specs.Prelude.{◌<◌, IfSome};
+ghost use Rattle.limits.specs.Limits.{most_ports};
 
+use limits::MOST_PORTS;
 use worker_bells::{Average, FillLevel, HeldCounts, Load, SLOTS};
 
 /// Of so many workers at most it is told what they have: no broker has more.
-pub(crate) const MOST_WORKERS: usize = 64;
+pub(crate) const MOST_WORKERS: usize = MOST_PORTS as usize;
 
 /// For so many messages each, on the average, a worker's own members may be ahead of another worker's before those come first where all have as few.
 const MOST_AHEAD: u32 = 1;
@@ -193,7 +195,7 @@ impl Sharing {
 
     /// Of the other workers that are not found yet the one whose members are below a level and have the fewest, and were handed fewest where several have.
     fn next_fewest(&self, workers: usize, own: usize, level: u16, found: u64) -> Option<usize>
-        ensures { IfSome result (λ worker. worker < 64) }
+        ensures { IfSome result (λ worker. worker < most_ports) }
     {
         let mut best = None;
         let mut least = level;

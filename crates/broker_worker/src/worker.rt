@@ -17,12 +17,13 @@ use broker_groups::{Broker, BrokerPlace};
 use call_history::HistoryName;
 use conn_service::Direction;
 use conn_supply::NoMemory;
+use limits::MOST_CONNECTIONS;
 use shared_supply::{SharedBroker, SharedSupply};
 use std::alloc::Global;
 use std::marker::Model;
 use std::sync::Wait;
 use transport::Transport;
-use worker_bells::{MOST_CONNECTIONS, Mailboxes, WorkerBells};
+use worker_bells::{Mailboxes, WorkerBells};
 use worker_connections::{Admission, Connections, Poller, Returned, ServiceTable, WorkerHandle};
 
 /// How many bytes a round reads at most.

@@ -1,5 +1,6 @@
 //! The cell of a number, in which a client may be.
 ghost use Rattle.std.specs.Prelude.{◌≡◌, ◌<◌, ◌++◌, List, Some, true};
+ghost use Rattle.limits.specs.Limits.{most_connections};
 ghost use Rattle.conn_engine.specs.declared.input.Input.TheVariants as inputs;
 ghost use Rattle.client_table.specs.Clients.{ClientState, StepOutput as Output};
 ghost use Rattle.client_table.specs.Cells.{kept, Opens, Receives, TicksFor, EndsFor};
@@ -30,7 +31,7 @@ pub(crate) fn open<P: HoldingPlace>(
     number: u16,
     opening: Opening,
 )
-    requires { number < 1024 }
+    requires { number < most_connections }
     ensures { Opens number opening cell.old cell.new }
 {
     if cell.is_none() {

@@ -1,5 +1,6 @@
 //! A client: its connection, and the stream of its bytes.
 ghost use Rattle.std.specs.Prelude.{◌≡◌, ◌<◌, ◌≤◌, ◌^◌, ◌↔◌, [], ℕ, IsTrue, OnOk, OnErr, MatchOption, MatchResult, true};
+ghost use Rattle.limits.specs.Limits.{most_connections};
 ghost use Rattle.mqtt_wire.specs.Stream.{ReadAnswers};
 ghost use Rattle.conn_supply.specs.SupplyCalls.SupplyCall.{Kicked};
 ghost use Rattle.conn_engine.specs.Step.{IsNoPacket, IsWanted, NeedsVisit};
@@ -51,7 +52,7 @@ impl<P: HoldingPlace> Model for Client<P> {
 impl<P: HoldingPlace> Client<P> {
     /// A client whose connection, of this number, below 1,024, is opened so.
     pub fn open(alloc: Global, number: u16, opening: Opening) -> Client<P>
-        requires { number < 1024 }
+        requires { number < most_connections }
         ensures { result ≡ arrived (record { number = number; latest = opening.at; phase = phases.Unconnected opening }) }
     {
         Client {

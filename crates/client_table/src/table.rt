@@ -1,5 +1,6 @@
 //! The clients of a broker, by the numbers of their connections.
 ghost use Rattle.std.specs.Prelude.{◌≡◌, ◌<◌, ◌++◌, List, IfOk, None, replicate, true};
+ghost use Rattle.limits.specs.Limits.{most_ports};
 ghost use Rattle.conn_engine.specs.declared.input.Input.TheVariants as inputs;
 ghost use Rattle.client_table.specs.Clients.{StepOutput as Output};
 ghost use Rattle.client_table.specs.Cells.{Abandons, AbandonsEach, InCell, Opens, Receives, TicksFor, EndsFor};
@@ -48,7 +49,7 @@ impl<P: HoldingPlace> ClientTable<P> {
 
     /// The connection of this number, below [`CLIENTS`], is opened so.
     pub fn open(&mut self, number: u8, opening: Opening)
-        requires { number < 64 }
+        requires { number < most_ports }
         ensures { InCell self.old number (Opens number opening) self.new }
     {
         cell::open(
@@ -76,7 +77,7 @@ impl<P: HoldingPlace> ClientTable<P> {
         piece: &[u8],
         outputs: &mut Vec<StepOutput>,
     ) -> Result<(), NoMemory>
-        requires known { number < 64 }
+        requires known { number < most_ports }
         requires visiting { S.visiting supply.old ≡ true }
         ensures received { (more : List Output) × (outputs.new.items ≡ outputs.old.items ++ more)
             × InCell self.old number
@@ -104,7 +105,7 @@ impl<P: HoldingPlace> ClientTable<P> {
         now: u64,
         outputs: &mut Vec<StepOutput>,
     ) -> Result<(), NoMemory>
-        requires known { number < 64 }
+        requires known { number < most_ports }
         requires visiting { S.visiting supply.old ≡ true }
         ensures ticked { (more : List Output) × (outputs.new.items ≡ outputs.old.items ++ more)
             × InCell self.old number (λ before after. TicksFor S.call P.slot_of supply.old before now more result after supply.new) self.new }
@@ -125,7 +126,7 @@ impl<P: HoldingPlace> ClientTable<P> {
         now: u64,
         outputs: &mut Vec<StepOutput>,
     ) -> Result<(), NoMemory>
-        requires { number < 64 }
+        requires { number < most_ports }
         ensures ended { (more : List Output) × (outputs.new.items ≡ outputs.old.items ++ more)
             × InCell self.old number
             (λ before after. EndsFor S.call P.slot_of supply.old before now inputs.EndOfInput more result after supply.new) self.new }
@@ -146,7 +147,7 @@ impl<P: HoldingPlace> ClientTable<P> {
         now: u64,
         outputs: &mut Vec<StepOutput>,
     ) -> Result<(), NoMemory>
-        requires { number < 64 }
+        requires { number < most_ports }
         ensures closed { (more : List Output) × (outputs.new.items ≡ outputs.old.items ++ more)
             × InCell self.old number
             (λ before after. EndsFor S.call P.slot_of supply.old before now inputs.Closing more result after supply.new) self.new }

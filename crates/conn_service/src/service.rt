@@ -1,5 +1,6 @@
 //! A connection that is served.
 ghost use Rattle.std.specs.Prelude.{◌≡◌, ◌<◌, ◌≤◌, ◌^◌, ◌↔◌, ℕ, IsTrue, MatchOption, MatchResult};
+ghost use Rattle.limits.specs.Limits.{most_connections};
 ghost use Rattle.transport.specs.Counting.{no_counts};
 ghost use Rattle.conn_engine.specs.Looking.{IsSilentTooLong, TakesAt, held_by};
 ghost use Rattle.conn_engine.specs.Phases.{IsWaiting};
@@ -70,7 +71,7 @@ impl<P: HoldingPlace, T: Transport> Service<P, T> {
         opening: Opening,
         transport: T,
     ) -> Result<Service<P, T>, T>
-        requires number { number < 1024 }
+        requires number { number < most_connections }
         requires new { T.counts transport ≡ no_counts }
         ensures { MatchResult result (λ service. service ≡ opened number opening transport) (λ back. back ≡ transport) }
     {

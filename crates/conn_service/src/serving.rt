@@ -1,5 +1,6 @@
 //! One connection, from its opening to its end, over a transport whose calls wait.
 ghost use Rattle.std.specs.Prelude.{◌≡◌, ◌<◌, None};
+ghost use Rattle.limits.specs.Limits.{most_connections};
 ghost use Rattle.transport.specs.Counting.{no_counts};
 ghost use Rattle.conn_service.specs.Crossings.{RefusesAlways};
 ghost use Rattle.conn_service.specs.declared.served.Served.TheVariants as endings;
@@ -33,7 +34,7 @@ pub fn serve<P: HoldingPlace, T: Transport, S: Supply<P>, X: Crossing, C: Clock,
     worker: u32,
     clock: &mut C,
 ) -> (Served, T)
-    requires number { number < 1024 }
+    requires number { number < most_connections }
     requires new { T.counts transport ≡ no_counts }
     ensures served { IsServedToItsEnd S.call S.begins S.ends S.visiting P.slot_of T.counts T.given T.accepted number limits transport supply.old result.0 result.1 supply.new }
     ensures crossing { result.0 ≡ endings.NoCrossing → RefusesAlways X.refuses crossing.now worker }

@@ -1,5 +1,5 @@
 -- What holds of a broker, whatever happens to it.
-use Rattle.std.proofs.Common.{◌≡◌, ◌≢◌, ℕ, true, List, [], ◌∷◌, ◌++◌, Some, Ok, Err, slice_get, slice_set, refl, sym, ap, ◌∙◌, subst, inl, ⊎_elim, append_assoc, append-nil, get_or, Result, arith}
+use Rattle.std.proofs.Common.{◌≡◌, ◌≢◌, ℕ, ◌≤◌, true, List, [], ◌∷◌, ◌++◌, Some, Ok, Err, slice_get, slice_set, refl, sym, ap, ◌∙◌, subst, inl, ⊎_elim, append_assoc, append-nil, get_or, Result, arith}
 use Rattle.std.specs.List.{AllByRecursion}
 use Rattle.std.proofs.lemmas.Bool.{cases_eq}
 use Rattle.std.proofs.lemmas.Option.{slice_get_within, slice_get-get_or, same_Some}
@@ -11,8 +11,10 @@ use Rattle.group_jobs.specs.declared.message.Message.{Message}
 use Rattle.group_jobs.specs.declared.stamp.Stamp.{Stamp}
 use Rattle.group_jobs.specs.Stamps.{Held}
 use Rattle.session_desk.specs.Calls.{Call}
-use Rattle.session_desk.specs.Hands.{DeskLaw}
+use Rattle.limits.specs.Limits.{default_sessions}
+use Rattle.session_desk.specs.Hands.{DeskLaw, KeepsAtMost, living_in}
 use Rattle.session_desk.proofs.OneHand.{law_all}
+use Rattle.session_desk.proofs.AsTold.{few_next, none_yet}
 use Rattle.local_group.specs.Groups.{Group}
 use Rattle.local_group.proofs.Steps.{goes_on}
 use Rattle.conn_supply.specs.declared.supply.OfferRefusal.{OfferRefusal}
@@ -59,6 +61,44 @@ pub law_all_along : (happenings : List Happening) (old new : Broker) → DeskLaw
 law_all_along [] old new law all = subst (λ (b : Broker). DeskLaw b.desk.rows b.desk.made) (sym all) law
 law_all_along (Called supply_call ∷ others) old new law all = law_all_along others all.0 new (law_next old all.0 supply_call law all.1) all.2
 law_all_along (Closed ∷ others) old new law all = law_all_along others all.0 new (same_desk old all.0 law all.1.desk) all.2
+
+-- a desk that is told to keep as many as a broker of its own accord keeps no more
+few_asks : (old new : Broker) (call : Call Held GroupPlace) → DeskLaw old.desk.rows old.desk.made → KeepsAtMost default_sessions call → living_in old.desk.rows ≤ default_sessions → AsksDesk old call new
+    → living_in new.desk.rows ≤ default_sessions
+few_asks old new call law told few does = few_next cell_of default_sessions old.desk new.desk call law does.makes told few
+
+few_same : (old new : Broker) → living_in old.desk.rows ≤ default_sessions → new.desk ≡ old.desk → living_in new.desk.rows ≤ default_sessions
+few_same old new few same = subst (λ desk. living_in desk.rows ≤ default_sessions) (sym same) few
+
+few_call : (old new : Broker) (supply_call : SupplyCall GroupPlace) → DeskLaw old.desk.rows old.desk.made → living_in old.desk.rows ≤ default_sessions → Calls old supply_call new
+    → living_in new.desk.rows ≤ default_sessions
+few_call old new (Attach request answer) law few does = few_asks old new _ law (omega arith) few does
+few_call old new (Withdraw connection) law few does = few_asks old new _ law tt few does
+few_call old new (Kicked connection answer) law few does = few_asks old new _ law tt few does
+few_call old new (Park session now answer) law few does = few_asks old new _ law tt few does
+few_call old new (ParkAsIs session) law few does = few_asks old new _ law tt few does.1
+few_call old new (Keep session) law few does = few_asks old new _ law tt few does.1
+few_call old new (Bury session) law few does = few_asks old new _ law tt few does.1
+few_call old new (Sweep now answer) law few does = few_asks old new _ law tt few does
+few_call old new (LendPlace slot answer) law few does = few_asks old new _ law tt few does
+few_call old new (TakePlace place) law few does = few_asks old new _ law tt few does.1
+few_call old new (Bind share answer) law few does = few_same old new few does.1.desk
+few_call old new (Find share answer) law few does = few_same old new few (ap (λ b. b.desk) does.1)
+few_call old new (Match topic slots) law few does = few_same old new few (ap (λ b. b.desk) does.1)
+few_call old new (Offer slot connection message answer) law few does = few_same old new few does.1.desk
+few_call old new (MayTake place answer) law few does = few_same old new few (ap (λ b. b.desk) does.1)
+few_call old new (Take place place' answer) law few does = few_same old new few does.2.desk
+few_call old new (TakeBack place place' answer) law few does = few_same old new few does.2.desk
+few_call old new (Settle place place' envelope fate) law few does = few_same old new few does.2.desk
+few_call old new (GiveBack place place' envelope (Ok done)) law few does = few_same old new few does.2.desk
+few_call old new (GiveBack place place' envelope (Err back)) law few does = absurd does
+
+pub few_all_along : (happenings : List Happening) (old new : Broker) → DeskLaw old.desk.rows old.desk.made → living_in old.desk.rows ≤ default_sessions → HappensAll old happenings new
+    → living_in new.desk.rows ≤ default_sessions
+few_all_along [] old new law few all = subst (λ (b : Broker). living_in b.desk.rows ≤ default_sessions) (sym all) few
+few_all_along (Called supply_call ∷ others) old new law few all =
+    few_all_along others all.0 new (law_next old all.0 supply_call law all.1) (few_call old all.0 supply_call law few all.1) all.2
+few_all_along (Closed ∷ others) old new law few all = few_all_along others all.0 new (same_desk old all.0 law all.1.desk) (few_same old all.0 few all.1.desk) all.2
 
 -- the group of this slot was this one before, and one event more happened in it at most
 pub record Came (old : List Group) (slot : ℕ) (group : Group) : Type 0 where
@@ -198,3 +238,6 @@ only_ends (happening ∷ others) old new shut all slot group there =
 
 pub new_desk : (capacity : ℕ) (shares : List Share) (b : Broker) → IsNewBroker capacity shares b → DeskLaw b.desk.rows b.desk.made
 new_desk capacity shares b new = new_law b.desk new.desk
+
+pub new_few : (capacity : ℕ) (shares : List Share) (b : Broker) → IsNewBroker capacity shares b → living_in b.desk.rows ≤ default_sessions
+new_few capacity shares b new = none_yet b.desk.rows default_sessions (ap (λ books. books.rows) new.desk.books)

@@ -6,7 +6,7 @@ use Rattle.mqtt_topic.specs.declared.error.TopicError.TheVariants as topic
 use Rattle.group_jobs.specs.Stamps.{Held}
 use Rattle.group_jobs.specs.declared.message.Message.{Message}
 use Rattle.group_jobs.specs.declared.stamp.Stamp.{Stamp}
-use Rattle.limits.specs.Limits.{default_sessions}
+use Rattle.limits.specs.Limits.{default_sessions, most_groups, most_ports}
 use Rattle.session_desk.specs.declared.newcomers.Newcomers.TheVariants.{IfRoom}
 use Rattle.session_desk.specs.declared.session.Session.{Session}
 use Rattle.session_desk.specs.Calls.{Call, IsAllowed, Makes}
@@ -58,9 +58,9 @@ Binds old share (Err bind.NotDeclared) new = ⊥
 -- were closed
 abbrev pub OffersFrom : List Group → ℕ → ℕ → Message → Result Stamp OfferRefusal → List Group → Type 0
 OffersFrom old slot connection message answer new =
-    ((64 ≤ connection) × (answer ≡ Err refusal.LifeSpent) × (new ≡ old))
-    ⊎ (((connection < 64) × (8 ≤ slot) × (answer ≡ Err refusal.Shut) × (new ≡ old))
-    ⊎ ((connection < 64) × (slot < 8) × InGroup old slot (λ before after. IsOffered before connection message answer after) new))
+    ((most_ports ≤ connection) × (answer ≡ Err refusal.LifeSpent) × (new ≡ old))
+    ⊎ (((connection < most_ports) × (most_groups ≤ slot) × (answer ≡ Err refusal.Shut) × (new ≡ old))
+    ⊎ ((connection < most_ports) × (slot < most_groups) × InGroup old slot (λ before after. IsOffered before connection message answer after) new))
 
 -- what each call makes, with its answer
 abbrev pub Calls : Broker → SupplyCall GroupPlace → Broker → Type 0

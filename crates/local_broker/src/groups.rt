@@ -1,5 +1,6 @@
 //! The calls of one group, as a connection is answered them.
 ghost use Rattle.std.specs.Prelude.{◌≡◌, ◌<◌, ◌↔◌, IsTrue};
+ghost use Rattle.limits.specs.Limits.{most_members, most_ports};
 ghost use Rattle.local_broker.specs.Groups.{ClosesEach, told_as, IsOffered, HandsOut, HandsOutAgain, IsOutAt, IsSettled, IsGivenBack};
 
 use crate::discarding::discard;
@@ -13,7 +14,7 @@ pub(crate) fn offer(
     port: u8,
     message: SharedMessage,
 ) -> Result<Stamp, OfferRefusal>
-    requires { port < 64 }
+    requires { port < most_ports }
     ensures { IsOffered group.old port message result group.new }
 {
     match group.offer(port, message) {
@@ -36,7 +37,7 @@ fn refusal_of(refused: NotTaken) -> OfferRefusal
 
 /// Hands the oldest queued message to a place.
 pub(crate) fn take(group: &mut LocalGroup, place: u8) -> Result<Option<Envelope>, NoMemory>
-    requires { place < 32 }
+    requires { place < most_members }
     ensures { HandsOut group.old place result group.new }
 {
     match group.take(place) {
@@ -48,7 +49,7 @@ pub(crate) fn take(group: &mut LocalGroup, place: u8) -> Result<Option<Envelope>
 
 /// Hands the message that was given back first to a place.
 pub(crate) fn take_back(group: &mut LocalGroup, place: u8) -> Result<Option<Envelope>, NoMemory>
-    requires { place < 32 }
+    requires { place < most_members }
     ensures { HandsOutAgain group.old place result group.new }
 {
     match group.take_back(place) {

@@ -1,9 +1,10 @@
 //! Laws of a broker on one thread: what holds whatever happens to it. Each is the contract of a function that does nothing, stated
 //! over the definitions that the contracts of [`LocalSupply`](crate::LocalSupply) cite.
-ghost use Rattle.std.specs.Prelude.{◌≡◌, ℕ, List, Some, Ok, slice_get};
+ghost use Rattle.std.specs.Prelude.{◌≡◌, ℕ, ◌≤◌, List, Some, Ok, slice_get};
 ghost use Rattle.mqtt_topic.specs.Names.{Share};
 ghost use Rattle.group_jobs.specs.Stamps.{Held};
-ghost use Rattle.session_desk.specs.Hands.{DeskLaw};
+ghost use Rattle.limits.specs.Limits.{default_sessions};
+ghost use Rattle.session_desk.specs.Hands.{DeskLaw, living_in};
 ghost use Rattle.local_group.specs.Groups.{Group};
 ghost use Rattle.local_broker.specs.Broker.{Broker, IsClosed, IsNewBroker};
 ghost use Rattle.local_broker.specs.HandOuts.{handed_by_all, handed_in_all, seen_by_group};
@@ -20,11 +21,13 @@ ghost use Rattle.local_broker.specs.Publishers.{AcceptsThrough, AcceptsNothing, 
 ghost use Rattle.local_broker.specs.Reporting.{TellsLine};
 ghost use Rattle.local_broker.specs.ReturnedFirst.{AllServeReturnedFirst};
 
-/// **The desk law holds always**, whatever calls are made of a new broker: at most 256 sessions, no two of one client that are lent
-/// or parked, each row's session its own, and none that is parked is ending.
+/// **The desk law holds always**, whatever calls are made of a new broker: no two sessions of one client that are lent
+/// or parked, each row's session its own, and none that is parked is ending (`kept`). At most 256 are lent or parked (`few`).
 pub fn desk_law()
-    ensures { (capacity : ℕ) (shares : List Share) (happenings : List Happening) (first b : Broker) →
+    ensures kept { (capacity : ℕ) (shares : List Share) (happenings : List Happening) (first b : Broker) →
         IsNewBroker capacity shares first → HappensAll first happenings b → DeskLaw b.desk.rows b.desk.made }
+    ensures few { (capacity : ℕ) (shares : List Share) (happenings : List Happening) (first b : Broker) →
+        IsNewBroker capacity shares first → HappensAll first happenings b → living_in b.desk.rows ≤ default_sessions }
 {}
 
 /// **Each group's events are a run** to where its jobs are, whatever calls are made of a new broker; and it has the number of its

@@ -1,4 +1,5 @@
 //! Places of the groups.
+
 use conn_supply::HoldingPlace;
 use session_desk::Place;
 use std::marker::Model;
@@ -15,13 +16,14 @@ pub struct LocalPlace {
 
 impl Model for LocalPlace {
     ghost use Rattle.std.specs.Prelude.{◌<◌};
+    ghost use Rattle.limits.specs.Limits.{most_groups, most_members};
     ghost use Rattle.local_broker.specs.Places.{GroupPlace};
 
     ghost Value = { GroupPlace };
 
     ghost view = { λ p. record { slot = p.slot; number = p.number } };
 
-    ghost invariant = { λ p. (p.slot < 8) × (p.number < 32) };
+    ghost invariant = { λ p. (p.slot < most_groups) × (p.number < most_members) };
 }
 
 impl LocalPlace {

@@ -1,5 +1,6 @@
 //! The supply of a broker on one thread.
 ghost use Rattle.std.specs.Prelude.{◌≡◌, ◌<◌, ◌≤◌, length, Some, None, slice_get, IfOk, MatchOption, false};
+ghost use Rattle.limits.specs.Limits.{most_groups};
 ghost use Rattle.mqtt_topic.specs.Routes.{AreDistinct};
 ghost use Rattle.local_broker.specs.Broker.{IsNewBroker, IsClosed, is_open};
 ghost use Rattle.local_broker.specs.Calls.{Closes};
@@ -84,7 +85,7 @@ impl LocalSupply {
     /// The shares that are bound, the one of slot n at place n.
     pub fn shares(&self) -> &[Share]
         ensures value { result.now ≡ self.now.routes }
-        ensures few { length result.now ≤ 8 }
+        ensures few { length result.now ≤ most_groups }
         ensures distinct { AreDistinct result.now }
     {
         self.routes.shares()
@@ -92,7 +93,7 @@ impl LocalSupply {
 
     /// The group of this slot, below 8: what happened in it, and what became of its messages.
     pub fn group(&self, slot: u8) -> &LocalGroup
-        requires { slot < 8 }
+        requires { slot < most_groups }
         ensures { slice_get self.now.groups slot ≡ Some result.now }
     {
         &self.groups[usize::from(slot)]

@@ -5,7 +5,8 @@ use Rattle.std.specs.List.{cons_option}
 use Rattle.std.proofs.lemmas.Bool.{false≢true}
 use Rattle.std.proofs.lemmas.List.Elements.{filter_map-append}
 use Rattle.dispatch_core.proofs.RunLaws.{lawful_run}
-use Rattle.session_desk.specs.Hands.{DeskLaw}
+use Rattle.limits.specs.Limits.{default_sessions}
+use Rattle.session_desk.specs.Hands.{DeskLaw, living_in}
 use Rattle.conn_supply.specs.declared.supply.NoMemory.{NoMemory}
 use Rattle.conn_supply.specs.SupplyCalls.{SupplyCall}
 use Rattle.conn_engine.specs.declared.input.Input.{Input}
@@ -23,7 +24,7 @@ use Rattle.local_broker.specs.HandOuts.{handed_by, handed_by_all, seen_by_group}
 use Rattle.local_broker.specs.Histories.{Happening, HappensAll as HappensToBroker}
 use Rattle.local_broker.specs.Histories.Happening.{Called, Closed}
 use Rattle.local_broker.proofs.HandedOut.{handed_all}
-use Rattle.local_broker.proofs.Happened.{running_all, running_first, law_all_along, new_desk}
+use Rattle.local_broker.proofs.Happened.{running_all, running_first, law_all_along, few_all_along, new_desk, new_few}
 use Rattle.local_server.specs.declared.event.ServerEvent.{ServerEvent}
 use Rattle.local_server.specs.declared.event.ServerEvent.TheVariants as events
 use Rattle.local_server.specs.declared.event.TimedEvent.{TimedEvent}
@@ -200,6 +201,11 @@ pub desk : (setup : Setup) (events : List TimedEvent) (first last : ServerState)
 desk setup events first last new all =
     let led = undergone events first last all in
     law_all_along led.0 first.broker last.broker (new_desk setup.capacity setup.groups first.broker new.broker) led.1
+
+pub few : (setup : Setup) (events : List TimedEvent) (first last : ServerState) → IsNewServer setup first → GoesThrough first events last → living_in last.broker.desk.rows ≤ default_sessions
+few setup events first last new all =
+    let led = undergone events first last all in
+    few_all_along led.0 first.broker last.broker (new_desk setup.capacity setup.groups first.broker new.broker) (new_few setup.capacity setup.groups first.broker new.broker) led.1
 
 -- after the close
 passed : (moment : ℕ) (event : ServerEvent) (outputs : List StepOutput) (old new : ServerState) → is_open old.broker ≡ false → Happens old moment event outputs (Ok tt) new

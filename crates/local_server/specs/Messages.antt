@@ -1,6 +1,7 @@
 -- Which messages a run accepts, and that they are what it sends (sections 3.3, 4.3.2 and 4.4).
 use Rattle.std.specs.Prelude.{◌≡◌, ℕ, ◌<◌, nat_eq, ◌&&◌, if◌then◌else◌, List, [], ◌∷◌, ◌++◌, length, filter_map, Option, Some, None, slice_get, Contains}
 use Rattle.std.specs.List.{AllByRecursion, AllPairs, flat_map}
+use Rattle.limits.specs.Limits.{most_groups}
 use Rattle.mqtt_packet.specs.declared.packet.Packet.TheVariants as packets
 use Rattle.mqtt_packet.specs.declared.packet.Publish.{Publish}
 use Rattle.dispatch_core.specs.declared.event.Event.{Event}
@@ -61,7 +62,7 @@ pub record IsBroughtBy (connection now : ℕ) (input : Input) (accepted : Accept
   pub came : input ≡ inputs.Packet (packets.Publish publish)
   pub message : accepted.message ≡ message_of now publish
   pub port : accepted.port ≡ connection
-  pub group : accepted.group < 8
+  pub group : accepted.group < most_groups
 
 -- these were accepted in one step: the message that came, once by each of some groups, in the order of their slots
 pub record IsBrought (connection now : ℕ) (input : Input) (accepted : List Accepted) : Type 0 where

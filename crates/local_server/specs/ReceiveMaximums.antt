@@ -1,5 +1,6 @@
 -- The quota of each connection is that of the CONNECT that came on it, along the steps of the connection (sections 3.1.2.11.3 and 4.9).
 use Rattle.std.specs.Prelude.{◌≡◌, ◌≤◌, ℕ, List, [], ◌∷◌, length, Option, Some, None, ⊤}
+use Rattle.limits.specs.Limits.{most_unacknowledged}
 use Rattle.mqtt_packet.specs.declared.packet.Connect.{Connect}
 use Rattle.mqtt_packet.specs.declared.packet.Packet.TheVariants as packets
 use Rattle.conn_rules.specs.Connecting.{inflight_alone, or_else, terms_of}
@@ -33,7 +34,7 @@ pub record KeepsToConnect (limit : ℕ) (connect : Connect) (connected : Connect
   pub terms : connected.terms ≡ terms_of (inflight_alone limit) connect
   pub asked : length connected.session.window.owed ≤ receive_maximum_of connect
   pub limited : length connected.session.window.owed ≤ limit
-  pub most : length connected.session.window.owed ≤ 256
+  pub most : length connected.session.window.owed ≤ most_unacknowledged
 
 -- a connection keeps to its CONNECT, where one came: one that waits for its session has the terms of it, too; and before it came, a connection has the limit of the server
 abbrev pub KeepsTo : (limit : ℕ) → Option Connect → ConnPhase GroupPlace → Type 0

@@ -1,5 +1,6 @@
 -- What comes in an event, and that the steps of the event answer it: each client's stream is read packet by packet (sections 2.1 and 4.13).
 use Rattle.std.specs.Prelude.{◌≡◌, ◌≢◌, ℕ, ◌<◌, Bool, true, false, List, [], ◌∷◌, ◌++◌, Option, Some, None, slice_get, ⊤}
+use Rattle.limits.specs.Limits.{most_ports}
 use Rattle.mqtt_wire.specs.Spelling.{Spells}
 use Rattle.mqtt_wire.specs.Stream.{FaultAt}
 use Rattle.conn_supply.specs.declared.reply.Then.TheVariants.{Go}
@@ -68,7 +69,7 @@ EventIsAnswered (events.Open number) old conn_steps new = conn_steps ≡ []
 EventIsAnswered (events.Bytes number piece) old conn_steps new = PieceIsAnswered (client_at old number) piece conn_steps (client_at new number)
 EventIsAnswered (events.Tick number) old conn_steps new = TickIsAnswered (client_at old number) conn_steps (client_at new number)
 EventIsAnswered (events.End number) old conn_steps new = LastIsAnswered inputs.EndOfInput (client_at old number) conn_steps
-EventIsAnswered events.Close old conn_steps new = (number : ℕ) → number < 64 → LastIsAnswered inputs.Closing (client_at old number) (conn_steps_of number conn_steps)
+EventIsAnswered events.Close old conn_steps new = (number : ℕ) → number < most_ports → LastIsAnswered inputs.Closing (client_at old number) (conn_steps_of number conn_steps)
 
 -- after the close nothing comes any more
 abbrev pub EventIsAnsweredIf : Bool → ServerEvent → Clients → List ConnStep → Clients → Type 0

@@ -1,8 +1,9 @@
 //! Laws of a server: what holds whatever events happen to it. Each is the contract of a function that does nothing, stated over the
 //! definitions that the contract of [`Server::happen`](crate::Server::happen) cites.
-ghost use Rattle.std.specs.Prelude.{◌≡◌, ℕ, true, false, List, [], None, Ok, Result};
+ghost use Rattle.std.specs.Prelude.{◌≡◌, ℕ, ◌≤◌, true, false, List, [], None, Ok, Result};
 ghost use Rattle.std.specs.List.{AllByRecursion};
-ghost use Rattle.session_desk.specs.Hands.{DeskLaw};
+ghost use Rattle.limits.specs.Limits.{default_sessions};
+ghost use Rattle.session_desk.specs.Hands.{DeskLaw, living_in};
 ghost use Rattle.conn_supply.specs.declared.supply.NoMemory.{NoMemory};
 ghost use Rattle.client_table.specs.Clients.{StepOutput};
 ghost use Rattle.local_broker.specs.Broker.{is_open};
@@ -136,11 +137,13 @@ pub fn size_law()
         IsNewServer setup first → HappensAll first events outputs last → AllWritable outputs }
 {}
 
-/// **The desk law holds, whatever happens to the server**, with memory and without: at most 256 sessions, no two of one client that are lent or parked,
-/// and none parked that is ending.
+/// **The desk law holds, whatever happens to the server**, with memory and without: no two sessions of one client that are lent or parked,
+/// and none parked that is ending (`kept`). At most 256 are lent or parked (`few`).
 pub fn desk_law()
-    ensures { (setup : Setup) (events : List TimedEvent) (first last : ServerState) →
+    ensures kept { (setup : Setup) (events : List TimedEvent) (first last : ServerState) →
         IsNewServer setup first → GoesThrough first events last → DeskLaw last.broker.desk.rows last.broker.desk.made }
+    ensures few { (setup : Setup) (events : List TimedEvent) (first last : ServerState) →
+        IsNewServer setup first → GoesThrough first events last → living_in last.broker.desk.rows ≤ default_sessions }
 {}
 
 /// **The quota is kept on every connection** (section 4.9), whatever happens to the server, also where an allocation fails (`one`): of the PUBLISH

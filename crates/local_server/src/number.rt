@@ -1,5 +1,6 @@
 //! The numbers of connections.
 ghost use Rattle.std.specs.Prelude.{◌≡◌, ◌<◌, ◌≤◌, IfOk, IfErr, ⊤};
+ghost use Rattle.limits.specs.Limits.{most_ports};
 
 use client_table::CLIENTS;
 use std::marker::Model;
@@ -18,12 +19,13 @@ pub struct ConnectionNumber {
 
 impl Model for ConnectionNumber {
     ghost use Rattle.std.specs.Prelude.{ℕ, ◌<◌};
+    ghost use Rattle.limits.specs.Limits.{most_ports};
 
     ghost Value = { ℕ };
 
     ghost view = { λ n. n.number };
 
-    ghost invariant = { λ n. n.number < 64 };
+    ghost invariant = { λ n. n.number < most_ports };
 
     ghost inverse = { λ number. record { number = number } };
 }
@@ -39,7 +41,7 @@ impl ConnectionNumber {
     /// 802 [`OutOfRange`] for a number from [`CLIENTS`] on.
     pub fn new(number: u8) -> Result<ConnectionNumber, OutOfRange>
         ensures ok { IfOk result (λ known. known ≡ number) }
-        ensures in_range { IfOk result (λ _. number < 64) }
+        ensures in_range { IfOk result (λ _. number < most_ports) }
         ensures out_of_range { IfErr result (λ _. 64 ≤ number) }
     {
         if usize::from(number) < CLIENTS {
@@ -52,7 +54,7 @@ impl ConnectionNumber {
     /// The number, below [`CLIENTS`].
     pub fn get(self) -> u8
         ensures value { result ≡ self }
-        ensures known { result < 64 }
+        ensures known { result < most_ports }
     {
         self.number
     }

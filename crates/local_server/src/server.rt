@@ -1,5 +1,6 @@
 //! A server on one thread.
 ghost use Rattle.std.specs.Prelude.{◌≡◌, ◌≤◌, ◌++◌, length, List, MatchOption, IfOk, None, true, slice_get};
+ghost use Rattle.limits.specs.Limits.{most_groups};
 ghost use Rattle.client_table.specs.Clients.{StepOutput as Output};
 ghost use Rattle.local_broker.specs.Broker.{is_open};
 ghost use Rattle.local_broker.specs.Reporting.{TellsLine};
@@ -103,7 +104,7 @@ impl Server {
     /// The shares that are bound, the one of slot n at place n.
     pub fn shares(&self) -> &[Share]
         ensures value { result.now ≡ self.now.broker.routes }
-        ensures few { length result.now ≤ 8 }
+        ensures few { length result.now ≤ most_groups }
     {
         self.supply.shares()
     }

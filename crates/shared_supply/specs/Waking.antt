@@ -1,5 +1,6 @@
 -- What a worker did that others may wait for, and how it is counted.
 use Rattle.std.specs.Prelude.{◌≡◌, ℕ, ◌<◌, ◌+◌, ◌-◌, ◌^◌, min, true, false, replicate, slice_index, slice_set, Option, Some, None, Result, Ok, Err, List}
+use Rattle.limits.specs.Limits.{most_groups}
 use Rattle.session_desk.specs.declared.attached.Attached.{Attached}
 use Rattle.session_desk.specs.declared.attached.Attached.TheVariants.{New, Resumed, Replace, Busy}
 use Rattle.shared_supply.specs.declared.wakes.Wakes.{Wakes}
@@ -44,8 +45,8 @@ one_fewer_if (Err refusal) allowance = allowance
 
 -- of the messages of each group so many are kept at most, and the others are these
 pub record KeepsAtMost (most others : List ℕ) (old new : Wakes) : Type 0 where
-  pub kept : (slot : ℕ) → slot < 8 → slice_index new.messages slot ≡ min (slice_index old.messages slot) (slice_index most slot)
-  pub all : (slot : ℕ) → slot < 8 → slice_index others slot + slice_index new.messages slot ≡ slice_index old.messages slot
+  pub kept : (slot : ℕ) → slot < most_groups → slice_index new.messages slot ≡ min (slice_index old.messages slot) (slice_index most slot)
+  pub all : (slot : ℕ) → slot < most_groups → slice_index others slot + slice_index new.messages slot ≡ slice_index old.messages slot
   pub rest : new ≡ record old { messages = new.messages }
 
 -- the session of this connection is asked back too

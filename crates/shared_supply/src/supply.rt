@@ -1,5 +1,6 @@
 //! What a worker has of a broker.
 ghost use Rattle.std.specs.Prelude.{◌≡◌, ◌<◌, true, false};
+ghost use Rattle.limits.specs.Limits.{most_groups};
 ghost use Rattle.gate_word.specs.Visits.{Ends};
 ghost use Rattle.gate_word.specs.declared.visitor.Visitor.TheVariants.{Inside, Outside};
 ghost use Rattle.session_desk.specs.declared.newcomers.Newcomers.TheVariants.{Refused};
@@ -164,7 +165,7 @@ impl<'a, 'g, B: Broker, N: HistoryName, R: Wait> SharedSupply<'a, 'g, B, N, R> {
 
     /// Where an answer has a message of the group of this slot, that is handed out.
     pub(crate) fn note_handed(&mut self, slot: u8, answer: &Result<Option<Envelope>, NoMemory>)
-        requires { slot < 8 }
+        requires { slot < most_groups }
         ensures { self.new ≡ handing answer.now slot self.old }
     {
         self.wakes.note_taken(slot, answer);
@@ -197,7 +198,7 @@ impl<'a, 'g, B: Broker, N: HistoryName, R: Wait> SharedSupply<'a, 'g, B, N, R> {
 
     /// Another worker called it for a message of the group of this slot: its next hand-out there is no message less for others.
     pub fn count_call(&mut self, slot: usize)
-        requires { slot < 8 }
+        requires { slot < most_groups }
         ensures { self.new ≡ record self.old { wakes = one_called slot self.old.wakes } }
     {
         self.wakes.count_call(slot);

@@ -1,5 +1,6 @@
 //! What a worker did that others may wait for.
 ghost use Rattle.std.specs.Prelude.{◌≡◌, ◌<◌};
+ghost use Rattle.limits.specs.Limits.{most_groups};
 ghost use Rattle.shared_supply.specs.Waking.{KeepsAtMost, also_asked, asking_back, freeing, no_wakes, one_called, one_more, one_taken, one_taken_if};
 
 use broker_groups::{Broker, BrokerPlace};
@@ -47,7 +48,7 @@ impl Wakes {
 
     /// One message more is in the group of this slot.
     pub(crate) fn count(&mut self, slot: u8)
-        requires { slot < 8 }
+        requires { slot < most_groups }
         ensures { self.new ≡ one_more slot self.old }
     {
         let slot = usize::from(slot);
@@ -56,7 +57,7 @@ impl Wakes {
 
     /// Another worker called for a message of the group of this slot.
     pub(crate) fn count_call(&mut self, slot: usize)
-        requires { slot < 8 }
+        requires { slot < most_groups }
         ensures { self.new ≡ one_called slot self.old }
     {
         self.calls[slot] = self.calls[slot].saturating_add(1);
@@ -64,7 +65,7 @@ impl Wakes {
 
     /// Where an answer has a message of the group of this slot, that is handed out: one less for which it was called, or one less for others.
     pub(crate) fn note_taken(&mut self, slot: u8, answer: &Result<Option<Envelope>, NoMemory>)
-        requires { slot < 8 }
+        requires { slot < most_groups }
         ensures { self.new ≡ one_taken_if answer.now slot self.old }
     {
         if let Ok(Some(_)) = answer {
@@ -74,7 +75,7 @@ impl Wakes {
 
     /// A message of the group of this slot is handed out.
     fn take(&mut self, slot: usize)
-        requires { slot < 8 }
+        requires { slot < most_groups }
         ensures { self.new ≡ one_taken slot self.old }
     {
         let own = 1u32.saturating_sub(self.calls[slot]);

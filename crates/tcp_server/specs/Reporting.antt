@@ -1,5 +1,6 @@
 -- What is written of the groups of a broker that has ended.
 use Rattle.std.specs.Prelude.{ℕ, ◌≡◌, ◌<◌, List, map, All, Option, None, Result}
+use Rattle.limits.specs.Limits.{most_groups}
 use Rattle.mqtt_topic.specs.Names.{Share}
 use Rattle.text_io.specs.declared.error.RunError.{RunError}
 use Rattle.group_jobs.specs.Stamps.{Held}
@@ -27,7 +28,7 @@ unknown connection = None
 
 -- in each group of a broker at most so many messages wait for their first hand-out
 abbrev pub HaveCapacity : (ℕ → GroupId) → ℕ → Type 0
-HaveCapacity group capacity = (slot : ℕ) → slot < 8 → (group slot).capacity ≡ capacity
+HaveCapacity group capacity = (slot : ℕ) → slot < most_groups → (group slot).capacity ≡ capacity
 
 -- A broker with groups of this capacity, so many workers and these limits for each connection kept the headline to its end, and these are the lines of the reports that its groups gave: of each slot to which a share is bound, as each
 -- that was there from the start is, unless all eight slots are bound, and of whose group there is a report.

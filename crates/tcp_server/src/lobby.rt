@@ -5,7 +5,7 @@ ghost use Rattle.transport.specs.Counting.{ComesNew, MayCome, after_arrival};
 use crate::addresses::Addresses;
 use crate::client_stream::ClientStream;
 use crate::turned_away::TurnedAwayLog;
-use crate::waiting::{MOST_WAITING, WaitingRoom};
+use crate::waiting::{MOST_IN_LOBBY, WaitingRoom};
 use broker_log::Log;
 use metrics::TurnedAway;
 use mio::net::TcpStream;
@@ -21,7 +21,7 @@ use transport::{Arrival, Source, Tally};
 const PATIENCE: u64 = 100;
 
 /// A source over a listener. It gives a connection once its first packet is there, or 4,096 bytes of that, or a fault, or once it has ended; until then it keeps it, and reads nothing of
-/// it. One that has not come so far in ten seconds is closed (section 3.1.4), and so is the one that came first, where more than [`MOST_WAITING`] wait. Those whose first packet has come are
+/// it. One that has not come so far in ten seconds is closed (section 3.1.4), and so is the one that came first, where more than [`MOST_IN_LOBBY`] wait. Those whose first packet has come are
 /// given in the order in which they came. Where there is nothing to give, a call waits for up to 100 milliseconds, or for as many as it was told, and looks again.
 ///
 /// Contracts see it as its tally.
@@ -164,7 +164,7 @@ fn take_in(
     turned_away: &mut TurnedAway,
     now: u64,
 ) -> bool {
-    for _ in 0..MOST_WAITING {
+    for _ in 0..MOST_IN_LOBBY {
         let Some(place) = room.place_for_one() else {
             return false;
         };

@@ -1,6 +1,7 @@
 //! Serving, from the listener to the last line.
 ghost use Rattle.std.specs.Prelude.{◌≡◌, ◌+◌, ◌≤◌, List, length, Ok, Result, IfOk, IfErr};
 ghost use Rattle.std.specs.Io.KnownBytes.{Appends, IsAtEnd};
+ghost use Rattle.limits.specs.Limits.{most_ports, most_waiting};
 ghost use Rattle.group_jobs.specs.declared.report.Report.{Report};
 ghost use Rattle.group_queue.specs.declared.error.FinishError.{FinishError};
 ghost use Rattle.tcp_server.specs.Lines.{EndsBy};
@@ -72,8 +73,8 @@ pub fn serve_at<R: Threads + Wait + Net + SystemClock + Sync, I: Read + Send, O:
     input: &mut I,
     output: &mut O,
 ) -> Result<(), RunError>
-    requires capacity { (1 ≤ settings.capacity) × (settings.capacity ≤ 65536) }
-    requires workers { (1 ≤ settings.workers) × (settings.workers ≤ 64) }
+    requires capacity { (1 ≤ settings.capacity) × (settings.capacity ≤ most_waiting) }
+    requires workers { (1 ≤ settings.workers) × (settings.workers ≤ most_ports) }
     ensures written { IsServedAt at.port settings.capacity settings.workers settings.limits groups.now result (O.contents output.old) (O.contents output.new) }
     ensures read { IfOk result (λ _. IsAtEnd (I.remaining input.new)) }
 {
@@ -103,8 +104,8 @@ pub fn serve_with<R: Threads + Wait + Net + SystemClock + Sync, I: Read + Send, 
     input: &mut I,
     output: &mut O,
 ) -> Result<(), RunError>
-    requires capacity { (1 ≤ settings.capacity) × (settings.capacity ≤ 65536) }
-    requires workers { (1 ≤ settings.workers) × (settings.workers ≤ 64) }
+    requires capacity { (1 ≤ settings.capacity) × (settings.capacity ≤ most_waiting) }
+    requires workers { (1 ≤ settings.workers) × (settings.workers ≤ most_ports) }
     ensures written { IsServed (listening_line listeners.source.port) settings.capacity settings.workers settings.limits groups.now result (O.contents output.old) (O.contents output.new) }
     ensures read { IfOk result (λ _. IsAtEnd (I.remaining input.new)) }
 {
@@ -217,7 +218,7 @@ fn live<
     output: &mut O,
 ) -> Result<Reported, RunError>
     requires gate { gated.gate.now ≡ M.gate }
-    requires workers { (1 ≤ serving.settings.workers) × (serving.settings.workers ≤ 64) }
+    requires workers { (1 ≤ serving.settings.workers) × (serving.settings.workers ≤ most_ports) }
     requires seats { AreSeatsOf gated.gate.now gated.seats.items × (length gated.seats.items ≡ serving.settings.workers + 3) }
     requires opened { IsOfBroker M.gate M.group serving.settings.workers gated.opened }
     requires capacity { HaveCapacity M.group (M.group 0).capacity }
@@ -263,7 +264,7 @@ fn live_with<
 ) -> Result<Reported, RunError>
     requires gate { gated.gate.now ≡ B.gate }
     requires desk { desk ≡ N.history }
-    requires workers { (1 ≤ serving.settings.workers) × (serving.settings.workers ≤ 64) }
+    requires workers { (1 ≤ serving.settings.workers) × (serving.settings.workers ≤ most_ports) }
     requires seats { AreSeatsOf gated.gate.now gated.seats.items × (length gated.seats.items ≡ serving.settings.workers + 3) }
     requires opened { IsOfBroker B.gate B.group serving.settings.workers gated.opened }
     requires capacity { HaveCapacity B.group (B.group 0).capacity }

@@ -5,6 +5,7 @@ ghost use Rattle.transport.specs.Counting.{no_counts};
 use crate::client_stream::ClientStream;
 use crate::first_packet::FirstLook;
 use conn_rules::CONNECT_TIMEOUT;
+use limits::MOST_CONNECTIONS;
 use mio::event::Source as MioSource;
 use mio::{Events, Interest, Poll, Token};
 use std::alloc::{AllocFailed, Global};
@@ -14,13 +15,13 @@ use tcp_edge::{ReactorError, Socket, TcpSource};
 
 /// How many connections whose first packet has not come there are at most: a quarter of all that a broker has. Where there are as many, the one that came first is closed for
 /// a newcomer, unless its first packet has come by then.
-pub(crate) const MOST_WAITING: usize = 256;
+pub(crate) const MOST_IN_LOBBY: usize = MOST_CONNECTIONS as usize / 4;
 
 /// What one wait can tell of: the listener, and each connection that waits.
-const MOST_EVENTS: usize = MOST_WAITING + 1;
+const MOST_EVENTS: usize = MOST_IN_LOBBY + 1;
 
 /// The token of the listener; the connection in place n has the token n.
-const LISTENER: usize = MOST_WAITING;
+const LISTENER: usize = MOST_IN_LOBBY;
 
 /// A connection whose first packet had not come when it was looked at last. Nothing of it was read. It is watched until it is given, or closed.
 #[derive(Drop)]
@@ -132,7 +133,7 @@ impl WaitingRoom {
 /// The places, all free.
 fn nobody(alloc: Global) -> Result<Vec<Option<Waiting>>, AllocFailed<Option<Waiting>>> {
     let mut places = Vec::new(alloc);
-    for _ in 0..MOST_WAITING {
+    for _ in 0..MOST_IN_LOBBY {
         places.push(None)?;
     }
     Ok(places)

@@ -1,5 +1,6 @@
 //! A broker that is open, and how it is opened.
 ghost use Rattle.std.specs.Prelude.{◌≡◌, ◌+◌, ◌<◌, ◌≤◌, List, [], All, length, vec_capacity, IfOk};
+ghost use Rattle.limits.specs.Limits.{most_ports};
 ghost use Rattle.gate_word.specs.Seats.{AreSeatsOf};
 ghost use Rattle.broker_groups.specs.Naming.{AreNewPlacesOf, AreUnsent, IsOfBroker};
 ghost use Rattle.call_history.specs.Callers.{all_parts};
@@ -35,6 +36,7 @@ pub struct OpenBroker<'g, B: Broker, N: HistoryName> {
 
 impl<'g, B: Broker, N: HistoryName> Model for OpenBroker<'g, B, N> {
     ghost use Rattle.std.specs.Prelude.{◌≡◌, ◌+◌, ◌≤◌, List, [], All, length, vec_capacity};
+    ghost use Rattle.limits.specs.Limits.{most_ports};
     ghost use Rattle.broker_groups.specs.Naming.{AreNewPlacesOf};
     ghost use Rattle.call_history.specs.Callers.{all_parts};
     ghost use Rattle.worker_connections.specs.Handles.{IsUnused};
@@ -45,7 +47,7 @@ impl<'g, B: Broker, N: HistoryName> Model for OpenBroker<'g, B, N> {
 
     ghost view = { λ b. record { workers = length b.handles.items; new_shares = b.shared_broker.new_shares; caller = b.caller } };
 
-    ghost invariant = { λ b. (1 ≤ length b.handles.items) × (length b.handles.items ≤ 64) × All (λ handle. IsUnused handle.ports handle.desk) b.handles.items
+    ghost invariant = { λ b. (1 ≤ length b.handles.items) × (length b.handles.items ≤ most_ports) × All (λ handle. IsUnused handle.ports handle.desk) b.handles.items
         × (b.room.items ≡ []) × (length b.handles.items ≤ vec_capacity b.room) × (b.caller.parts + length b.handles.items ≡ all_parts)
         × ((places : List PlaceState) × AreNewPlacesOf B.group places × HasPutIn b.caller places) };
 }
@@ -69,7 +71,7 @@ impl<'g, B: Broker<Seen = Nobody>, N: HistoryName> OpenBroker<'g, B, N> {
     ) -> Result<OpenBroker<'g, B, N>, NoMemory>
         requires gate { gate.now ≡ B.gate }
         requires desk { desk ≡ N.history }
-        requires workers { (1 ≤ workers) × (workers ≤ 64) }
+        requires workers { (1 ≤ workers) × (workers ≤ most_ports) }
         requires seats { AreSeatsOf gate.now seats.old.items × (workers ≤ length seats.old.items) }
         requires opened { IsOfBroker B.gate B.group workers opened }
         ensures seats { IfOk result (λ _. AreSeatsOf gate.now seats.new.items × (length seats.new.items + workers ≡ length seats.old.items)) }
@@ -122,7 +124,7 @@ impl<'g, B: Broker, N: HistoryName> OpenBroker<'g, B, N> {
     /// What it is made of.
     pub(crate) fn into_parts(self) -> BrokerParts<'g, B, N>
         ensures handles { length result.handles.items ≡ self.entry.workers }
-        ensures workers { (1 ≤ self.entry.workers) × (self.entry.workers ≤ 64) }
+        ensures workers { (1 ≤ self.entry.workers) × (self.entry.workers ≤ most_ports) }
         ensures unused { All (λ handle. IsUnused handle.ports handle.desk) result.handles.items }
         ensures room { (result.room.items ≡ []) × (self.entry.workers ≤ vec_capacity result.room) }
         ensures caller { result.caller ≡ self.entry.caller }

@@ -1,5 +1,6 @@
 //! A broker that is served to its end.
 ghost use Rattle.std.specs.Prelude.{◌≡◌, ◌+◌, ◌≤◌, List, All, length, map, take, IfOk, MatchResult};
+ghost use Rattle.limits.specs.Limits.{most_ports};
 ghost use mathlib.Core.List.{IsPrefix};
 ghost use Rattle.mqtt_topic.specs.Names.{Share as ShareState};
 ghost use Rattle.mqtt_topic.specs.Routes.{most_routes};
@@ -282,7 +283,7 @@ where
     W::Source: Send,
     W::Poller: Send,
     W::Alarm: Send + Sync,
-    requires workers { (1 ≤ length handles.items) × (length handles.items ≤ 64) }
+    requires workers { (1 ≤ length handles.items) × (length handles.items ≤ most_ports) }
     requires setup { length setup.unused_pollers.items ≡ length handles.items }
     requires unused { All (λ handle. IsUnused handle.ports handle.desk) handles.items }
     ensures handles { MatchResult result (λ ran. length ran.pooled.handles.items ≡ length handles.items) (λ back. length back.items ≡ length handles.items) }

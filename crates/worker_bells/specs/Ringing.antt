@@ -1,5 +1,6 @@
 -- What a worker has of the bells of its groups: where it is idle, and where it rang.
 use Rattle.std.specs.Prelude.{◌≡◌, ◌≢◌, ◌⊎◌, ℕ, ◌+◌, ◌%◌, ◌<◌, ◌≤◌, Bool, false, not, List, [], ◌∷◌, ◌++◌, Some, None, length, slice_get, slice_set, sum_by}
+use Rattle.limits.specs.Limits.{most_groups}
 use Rattle.bell.specs.declared.step.BellStep.{BellStep}
 use Rattle.bell.specs.declared.step.BellStep.TheVariants.{Listened, Settled, Rang}
 use Rattle.bell.specs.Handles.{ListenerState, RingerState, turn}
@@ -46,7 +47,7 @@ HasSettledAt listenings slot = (at : ListeningState) × (slice_get listenings sl
 
 -- it has at the bell of each group of which one of its connections would be handed a job
 abbrev pub IsIdle : List Interest → List ListeningState → Type 0
-IsIdle interests listenings = (slot : ℕ) → slot < 8 → IsWished slot interests → HasSettledAt listenings slot
+IsIdle interests listenings = (slot : ℕ) → slot < most_groups → IsWished slot interests → HasSettledAt listenings slot
 
 -- a ringer at the bell of the group of a slot, to which so many workers listen
 pub record RingingState : Type 0 where

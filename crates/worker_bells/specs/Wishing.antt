@@ -1,5 +1,6 @@
 -- Which connections of a worker would be handed a job, as it noted them.
 use Rattle.std.specs.Prelude.{◌≡◌, ℕ, ◌<◌, ◌≤◌, ◌==◌, cond, Bool, false, List, length, Option, Some, None, count_by, slice_get, slice_index_or}
+use Rattle.limits.specs.Limits.{most_groups}
 use Rattle.worker_bells.specs.declared.members.Interest.{Interest}
 
 -- it would be handed a job of the group of this slot
@@ -19,7 +20,7 @@ no_interest = record { takes = None; waits = false }
 
 -- they are counted for each group
 pub record AreCounted (takers : List ℕ) (interests : List Interest) : Type 0 where
-  pub each : (slot : ℕ) → slot < 8 → slice_index_or takers slot 0 ≡ taking slot interests
+  pub each : (slot : ℕ) → slot < most_groups → slice_index_or takers slot 0 ≡ taking slot interests
   pub few : length interests ≤ 65535
 
 -- one of them would be handed a job of the group of this slot

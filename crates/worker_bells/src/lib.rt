@@ -18,4 +18,4 @@ pub use hints::{Hint, Hints};
 pub use loads::{Average, FillLevel, HeldCounts, Load};
 pub use members::{Held, Interest, Members};
 pub use own_bells::{SLOTS, WorkerBells, all_own_bells};
-pub use shares::{MOST_CONNECTIONS, share_of};
+pub use shares::share_of;

@@ -1,5 +1,6 @@
 //! Which of a worker's connections would be handed a job, and which wait for a session.
 ghost use Rattle.std.specs.Prelude.{◌≡◌, ◌<◌, ◌≤◌, ◌+◌, ℕ, false, length, replicate, slice_set, slice_index_or};
+ghost use Rattle.limits.specs.Limits.{most_groups};
 ghost use Rattle.worker_bells.specs.Wishing.{IsWished, no_interest, none_or_one};
 
 use crate::loads::{HeldCounts, Load};
@@ -112,7 +113,7 @@ impl Members {
 
     /// Whether some connection would be handed a job of this group.
     pub fn has_taker(&self, slot: usize) -> bool
-        ensures { result ≡ false → slot < 8 → ¬ IsWished slot self.now }
+        ensures { result ≡ false → slot < most_groups → ¬ IsWished slot self.now }
     {
         slot < self.takers.len() && self.takers[slot] > 0
     }

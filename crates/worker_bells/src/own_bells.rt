@@ -1,6 +1,7 @@
 //! What workers have of the bells: a listener at the bell of each group, and ringers at all of them.
 ghost use Rattle.std.specs.Prelude.{◌≡◌, ◌≢◌, ◌≤◌, ◌<◌, ℕ, true, length, slice_get, IfOk, OnOk};
 ghost use Rattle.std.specs.Arc.{arc_value};
+ghost use Rattle.limits.specs.Limits.{most_groups};
 ghost use Rattle.bell.specs.Calls.{AreListenersOf, AreRingersOf};
 ghost use Rattle.worker_bells.specs.Ringing.{AreRung, HasSettledAt, HearsAt, IsIdle, IsRung, RingsAt};
 ghost use Rattle.worker_bells.specs.Joining.{AreJoined, AreJoinedBut, HasListeningMore, HasRingingMore};
@@ -69,7 +70,7 @@ impl<W: Wake> WorkerBells<W> {
 
     /// It is idle from now on at the bell of a group, where it has members that would be handed a job. Whether it may wait.
     fn settle_at(&mut self, slot: usize, members: &Members) -> bool
-        ensures settled { result ≡ true → slot < 8 → IsWished slot members.now → HasSettledAt self.new.listenings slot }
+        ensures settled { result ≡ true → slot < most_groups → IsWished slot members.now → HasSettledAt self.new.listenings slot }
         ensures others { (k : ℕ) → k ≢ slot → slice_get self.new.listenings k ≡ slice_get self.old.listenings k }
         ensures ringings { self.new.ringings ≡ self.old.ringings }
     {

@@ -1,5 +1,6 @@
 //! A cell, in which a connection may be.
 ghost use Rattle.std.specs.Prelude.{◌≡◌, ◌+◌, ◌<◌, None, Some, length, IfOk, MatchResult};
+ghost use Rattle.limits.specs.Limits.{most_connections};
 ghost use Rattle.transport.specs.Counting.{no_counts};
 ghost use Rattle.worker_connections.specs.Cells.{FollowsIn, Opens, Refuses, Turns, ended_by, taken};
 
@@ -8,12 +9,10 @@ use crate::round_notes::RoundNotes;
 use conn_engine::Opening;
 use conn_service::{Direction, Round, Service};
 use conn_supply::{HoldingPlace, Supply};
+use limits::MOST_CONNECTIONS;
 use std::alloc::Global;
 use std::marker::Model;
 use transport::{Crossing, Transport};
-
-/// How many connections a broker has at most.
-const MOST_CONNECTIONS: usize = 1_024;
 
 /// A connection that goes on. Contracts see it as that.
 pub(crate) struct Seat<P: HoldingPlace, T: Transport> {
@@ -67,9 +66,9 @@ pub(crate) fn open<P: HoldingPlace, T: Transport>(
 ) -> Result<(), T>
     requires new { T.counts transport ≡ no_counts }
     ensures opened { MatchResult result (λ _. Opens number opening transport cell.old cell.new) (Refuses transport cell.old cell.new) }
-    ensures known { IfOk result (λ _. number < 1024) }
+    ensures known { IfOk result (λ _. number < most_connections) }
 {
-    if cell.is_some() || number >= MOST_CONNECTIONS {
+    if cell.is_some() || number >= usize::from(MOST_CONNECTIONS) {
         return Err(transport);
     }
     match Service::open(alloc, number as u16, opening, transport) {

@@ -1,5 +1,6 @@
 //! The connections of a worker: those that it received are open, or have ended and are counted.
 ghost use Rattle.std.specs.Prelude.{◌≡◌, ◌<◌, ◌≤◌, ◌+◌, ℕ, Bool, [], None, true, false, replicate, length};
+ghost use Rattle.limits.specs.Limits.{most_groups};
 ghost use Rattle.group_queue.specs.Places.{PlaceState};
 ghost use Rattle.worker_connections.specs.Cells.{FollowsIn, InCell, Turns, ended_by, occupied};
 ghost use Rattle.worker_connections.specs.declared.cell_outcome.CellOutcome.{CellOutcome as AnyOutcome};
@@ -172,7 +173,7 @@ impl<'a, 'g, B: Broker, N: HistoryName, T: Transport + Drop, Q: Poller<T>, R: Wa
 
     /// Which of them would be handed a job, and which wait for a session.
     pub fn members(&self) -> &Members
-        ensures { (slot : ℕ) → slot < 8 → HasTaker slot self.now.cells → IsWished slot result.now }
+        ensures { (slot : ℕ) → slot < most_groups → HasTaker slot self.now.cells → IsWished slot result.now }
     {
         &self.members
     }
@@ -217,7 +218,7 @@ impl<'a, 'g, B: Broker, N: HistoryName, T: Transport + Drop, Q: Poller<T>, R: Wa
 
     /// Counts, where a ring was heard, that another worker called this one for a message of the group of this slot.
     pub fn count_call_if(&mut self, slot: usize, heard: bool)
-        requires { slot < 8 }
+        requires { slot < most_groups }
         ensures { self.new ≡ with_wakes self.old (one_called_if heard slot (wakes_of self.old)) }
     {
         if heard {

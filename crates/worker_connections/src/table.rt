@@ -1,5 +1,6 @@
 //! The connections of a worker, by their cells.
 ghost use Rattle.std.specs.Prelude.{◌≡◌, ◌+◌, ◌<◌, ◌≤◌, ◌↔◌, None, true, length, replicate, slice_index_or, All, IfOk, IsTrue, MatchResult};
+ghost use Rattle.limits.specs.Limits.{most_connections};
 ghost use Rattle.transport.specs.Counting.{no_counts};
 ghost use Rattle.worker_connections.specs.Cells.{FollowsIn, InCell, Opens, Refuses, TakesFrom, Turns, Waits, ended_by, held_in, occupied, taken};
 
@@ -74,7 +75,7 @@ impl<P: HoldingPlace, T: Transport> ServiceTable<P, T> {
         requires new { T.counts transport ≡ no_counts }
         ensures cell { InCell self.old cell (λ before after. MatchResult result (λ _. Opens number opening transport before after) (Refuses transport before after)) self.new }
         ensures len { length self.new ≡ length self.old }
-        ensures known { IfOk result (λ _. number < 1024) }
+        ensures known { IfOk result (λ _. number < most_connections) }
         ensures count { MatchResult result (λ _. occupied self.new ≡ occupied self.old + 1) (λ _. self.new ≡ self.old) }
     {
         let alloc = self.alloc;

@@ -1,5 +1,6 @@
 //! A pool of workers, and its run.
 ghost use Rattle.std.specs.Prelude.{◌≡◌, ◌+◌, ◌*◌, ◌<◌, ◌≤◌, ◌^◌, ℕ, List, [], All, length, map, vec_capacity, IfOk, IfErr, MatchResult};
+ghost use Rattle.limits.specs.Limits.{most_ports};
 ghost use Rattle.broker_worker.specs.Parts.{ArePartsOf};
 ghost use Rattle.conn_channel.specs.Ends.{AreOf, end_marks_received_by};
 ghost use Rattle.worker_connections.specs.Handles.{IsUnused};
@@ -78,7 +79,7 @@ where
     W::Source: Send,
     W::Poller: Send,
     W::Alarm: Send + Sync,
-    requires workers { (1 ≤ length handles.items) × (length handles.items ≤ 64) }
+    requires workers { (1 ≤ length handles.items) × (length handles.items ≤ most_ports) }
     requires setup { length setup.unused_pollers.items ≡ length handles.items }
     requires unused { All (λ handle. IsUnused handle.ports handle.desk) handles.items }
     requires routes { routes.old.table ≡ shared_broker.now }
@@ -148,7 +149,7 @@ fn hire<'a, 'g, B: Broker, N: HistoryName, T: Transport + Drop, Q: Poller<T> + D
     mailboxes: &'a Mailboxes<Q::Alarm>,
     sender: &Sender<Arrived<T>>,
 ) -> Result<(Vec<Worker<'a, 'g, B, N, T, Q, R>>, Vec<WorkerHandle<B, N>>), Vec<WorkerHandle<B, N>>>
-    requires count { length handles.items ≤ 64 }
+    requires count { length handles.items ≤ most_ports }
     requires all_worker_parts { length all_worker_parts.items ≡ length handles.items }
     requires unused { All (λ handle. IsUnused handle.ports handle.desk) handles.items }
     requires each { (share : ℕ) × ArePartsOf (length handles.items) share sender.now.channel all_worker_parts.items }

@@ -1,5 +1,6 @@
 //! What a pool has before its first worker begins.
 ghost use Rattle.std.specs.Prelude.{◌≡◌, ◌≤◌, ℕ, [], length, vec_capacity, IfOk};
+ghost use Rattle.limits.specs.Limits.{most_ports};
 ghost use Rattle.broker_worker.specs.Parts.{ArePartsOf};
 
 use broker_worker::{Mailboxes, UnusedPoller, WorkerParts, all_worker_parts};
@@ -26,7 +27,7 @@ pub(crate) fn provide<T: Transport + Drop, Q: Poller<T> + Drop>(
     unused_pollers: Vec<UnusedPoller<T, Q>>,
     alarms: Vec<Q::Alarm>,
 ) -> Result<Provision<T, Q>, NoMemory>
-    requires { length unused_pollers.items ≤ 64 }
+    requires { length unused_pollers.items ≤ most_ports }
     ensures sender { IfOk result (λ made. (made.sender.receivers ≡ length unused_pollers.items) × (made.sender.sent ≡ []) × (made.sender.end_marks_sent ≡ 0)) }
     ensures count { IfOk result (λ made. length made.all_worker_parts.items ≡ length unused_pollers.items) }
     ensures all_worker_parts { IfOk result (λ made. (share : ℕ) × ArePartsOf (length unused_pollers.items) share made.sender.channel made.all_worker_parts.items) }
