@@ -4,7 +4,7 @@ import time
 
 from fleet_links import Link
 from fleet_model import Fault, Session, fate_of
-from frames import PINGREQ, connect, disconnect, interval_of, job_of, puback, subscribe, unsubscribe
+from frames import PINGREQ, connect, disconnect, job_of, packet, puback, split_properties, subscribe, unsubscribe
 
 PLACES = 32
 NOTICED = 1  # after how many seconds the broker has surely noticed that a connection was dropped
@@ -94,7 +94,8 @@ class Member(Link):
         if code:
             raise Fault(f"{name}: CONNACK {body.hex()}")
         self.joined = True
-        self.group.discards = self.group.discards or self.takes > 0
+        if self.takes:
+            self.group.least = min(self.group.least, self.takes - len(self.identity.under))
         if present and self.clean:
             raise Fault(f"{name}: Session Present 1 after Clean Start")
         if self.hasty:
@@ -126,7 +127,7 @@ class Member(Link):
             return True
         if session is None or session.ended == "surely":
             return False
-        return self.group.hidden > 0 or any(job.size > self.takes for job in session.held.values())
+        return self.group.hidden > 0 or any(job.size + len(self.identity.under) > self.takes for job in session.held.values())
 
     def follows_dropped(self):
         """Whether another connection of the client was dropped so lately that the broker may not have noticed: then one of them may still wait for the session."""
@@ -166,11 +167,16 @@ class Member(Link):
             raise Fault(f"{where}: identifier")
         if identifier in self.window:
             raise Fault(f"{where}: the identifier is in use")
-        if self.takes and job.size > self.takes:
-            raise Fault(f"{where}: {job.size} bytes, Maximum Packet Size {self.takes}")
-        fault = job.fault_of(interval_of(body), first == 0x32, self.opened)
+        size = len(packet(first, body))
+        if self.takes and size > self.takes:
+            raise Fault(f"{where}: {size} bytes, Maximum Packet Size {self.takes}")
+        interval, others = split_properties(body)
+        if others != self.identity.under:
+            raise Fault(f"{where}: properties {others.hex()}, and it subscribed under {self.identity.subscription}")
+        fault = job.fault_of(interval, first == 0x32, self.opened)
         if fault is not None:
             raise Fault(f"{where}: {fault}")
+        group.reached[job.publisher] = max(group.reached.get(job.publisher, 0), job.number)
         self.window[identifier] = job
         if len(self.window) > self.limit():
             raise Fault(f"{where}: {len(self.window)} unacknowledged, Receive Maximum {self.maximum}")
@@ -280,7 +286,7 @@ class Member(Link):
         if self.session.group is None:
             self.session.group = self.group
             self.group.sessions += 1
-        self.say(subscribe(self.group.share))
+        self.say(subscribe(self.group.share, subscription=self.identity.subscription))
 
     def act(self):
         if self.finishing or self.told is not None or not self.joined:

@@ -2,6 +2,8 @@
 import collections
 import time
 
+from frames import length
+
 
 LEAST_MAXIMUM = 64  # the least Maximum Packet Size that the broker takes
 CLOCKS = 0.5  # seconds by which a moment of the broker may be before that of the clients: a worker reads its clock once a turn, before it reads what came
@@ -21,7 +23,8 @@ class Group:
         self.turned = {}  # jobs whose first delivery came behind a later job of their publisher
         self.last = {}  # by session and publisher, the number of the latest first delivery
         self.sessions = 0  # how many sessions were a member of it
-        self.discards = False  # whether a connection of one of its members took no long packets
+        self.least = float("inf")  # the bytes of the longest PUBLISH, without a Subscription Identifier, that each connection of its members takes
+        self.reached = {}  # by publisher, the number of the latest job that a member had
 
 
 class Job:
@@ -45,6 +48,9 @@ class Job:
         """Returns the fates that it may have, where it was accepted."""
         if self.sure:
             return {fate_of(self.code)}
+        if self.interval == 0 and self.number < group.reached.get(self.publisher, 0):
+            # its turn came before that of a later job, and it had expired at once
+            return {"discarded"}
         unseen = {"held", "returned"} if group.hidden else set()
         if self.may_be_discarded(group):
             unseen.add("discarded")
@@ -65,7 +71,7 @@ class Job:
 
     def may_be_discarded(self, group):
         """Whether it may have expired, or may have been handed to a member that it is too long for: which member had its turn nobody sees."""
-        return group.discards and self.size > LEAST_MAXIMUM or self.interval is not None and self.waited() >= self.interval - CLOCKS
+        return self.size > group.least or self.interval is not None and self.waited() >= self.interval - CLOCKS
 
     def waited(self):
         """How many seconds it has waited at most."""
@@ -106,8 +112,10 @@ class Identity:
     """A client identifier, with its session as it is known, its open connections, and all that it ever had. One that is hasty connects again while it
     waits for a CONNACK; of its sessions nothing is known."""
 
-    def __init__(self, name, hasty=False):
+    def __init__(self, name, hasty=False, subscription=0):
         self.name, self.hasty, self.session, self.open, self.links = name, hasty, None, [], []
+        self.subscription = subscription  # the Subscription Identifier of each of its SUBSCRIBE packets, or 0
+        self.under = b"\x0b" + length(subscription) if subscription else b""  # the property of it, in what it is sent
         self.takes = 0  # the Maximum Packet Size of those of its connections that name one
         self.log = collections.deque(maxlen=200)
 

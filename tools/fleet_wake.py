@@ -1,4 +1,4 @@
-"""Measures the time from PUBLISH to delivery of jobs that come one at a time, from a connection of one worker to a member of another."""
+"""Measures the time from PUBLISH to delivery of jobs that come one at a time, from a connection of one worker to a member of another, and how they are spread over members."""
 import os
 import random
 import select
@@ -8,23 +8,24 @@ import time
 
 from frames import PINGREQ, Broker, connect, cut, disconnect, job_of, puback, publish, subscribe
 
-LATE = 0.050
 STALL = 0.010
 PATIENCE = 10
+EACH = 8  # jobs for each member that acknowledges none
+SLACK = 3  # by how many of them it may have more or fewer: workers tell one another what their members have, and a job may come before it is told
 
 
 class Stalls:
     """Looks, by a process on each processor, when one stood still for over ten milliseconds: it was busy with other work, or the machine was."""
 
     def __init__(self):
-        self.ends, self.children = [], []
+        self.ends, self.children, parent = [], [], os.getpid()
         for processor in sorted(os.sched_getaffinity(0)):
             read, write = os.pipe()
             child = os.fork()
             if child == 0:
                 os.sched_setaffinity(0, {processor})
                 latest = time.monotonic()
-                while os.getppid() != 1:
+                while os.getppid() == parent:
                     time.sleep(0.001)
                     now = time.monotonic()
                     if now - latest > STALL:
@@ -181,13 +182,29 @@ class Wake:
             self.comes_back()
 
 
+def uneven(port, workers):
+    """Publishes jobs one at a time to members that acknowledge none, twice as many as workers. Returns how many each of them has, where one has many more or fewer than its share."""
+    members = [Client(port, f"even{number}", "$share/even/even") for number in range(2 * workers)]
+    publisher, counts = Client(port, "publisher of even"), [0] * len(members)
+    for number in range(EACH * len(members)):
+        publisher.socket.sendall(publish("even", b"x", number + 1))
+        publisher.wanted(0x40)
+        # each worker makes a turn, and tells
+        for _ in range(2):
+            for place, member in enumerate(members):
+                member.socket.sendall(PINGREQ)
+                while member.next()[0] != 0xD0:
+                    counts[place] += 1
+    return counts if max(abs(count - EACH) for count in counts) > SLACK else None
+
+
 def stood_in(stood, start, end):
     """Returns for how long processors stood still between two moments."""
     return sum(max(0, min(end, stop) - max(start, begin)) for begin, stop in stood)
 
 
-def wake(program, jobs):
-    """Returns the status: 0 where every job came in time."""
+def wake(program, jobs, latest):
+    """Returns the status: 0 where every job came within so many seconds, and members that acknowledge none have about as many each."""
     wrong, all_times, stalls = 0, {}, Stalls()
     for workers in (2, 4, 8):
         broker = Broker(program, "--workers", str(workers))
@@ -202,22 +219,26 @@ def wake(program, jobs):
                 wakes.turn(number)
             for what, times in wakes.times.items():
                 all_times.setdefault(what, []).extend(times)
+            counts = uneven(broker.port, workers)
+            if counts:
+                print(f"{workers} workers: of {sum(counts)} jobs members have {counts}")
+            published = wakes.number + 2 * workers * EACH
             status, reports = broker.end()
             accepted = sum(report[0] for report in reports.values())
-            print(f"{workers} workers: {wakes.number} jobs, status {status}, accepted {accepted}", flush=True)
-            wrong += status != 0 or accepted != wakes.number
+            print(f"{workers} workers: {published} jobs, status {status}, accepted {accepted}", flush=True)
+            wrong += status != 0 or accepted != published or counts is not None
         finally:
             broker.process.kill()
     stood = stalls.all()
     for what, times in all_times.items():
         times.sort()
-        late = [(start, start + took) for took, start in times if took > LATE]
-        beside = [one for one in late if one[1] - one[0] - stood_in(stood, *one) <= LATE]
+        late = [(start, start + took) for took, start in times if took > latest]
+        beside = [one for one in late if one[1] - one[0] - stood_in(stood, *one) <= latest]
         wrong += len(late) > len(beside)
         micros = [took * 1e6 for took, _ in times]
         print(
             f"{what}: {len(micros)} jobs; microseconds: median {micros[len(micros) // 2]:.0f}, 99th percentile "
-            f"{micros[-len(micros) // 100 - 1]:.0f}, longest {micros[-1]:.0f}; later than 50 milliseconds: {len(late)}, "
+            f"{micros[-len(micros) // 100 - 1]:.0f}, longest {micros[-1]:.0f}; later than {latest * 1000:.0f} milliseconds: {len(late)}, "
             f"of which {len(beside)} not, without the time for which processors stood still"
         )
     print(f"{len(stood)} times a processor stood still for over 10 milliseconds")

@@ -40,8 +40,10 @@ def connect(name, clean=True, expiry=0, receive_maximum=0, keep_alive=0, maximum
     return packet(0x10, text("MQTT") + b"\x05" + flags + keep_alive.to_bytes(2, "big") + length(len(properties)) + properties + payload)
 
 
-def subscribe(share, identifier=1):
-    return packet(0x82, identifier.to_bytes(2, "big") + b"\x00" + text(share) + b"\x01")
+def subscribe(share, identifier=1, subscription=0):
+    """Returns a SUBSCRIBE, with a Subscription Identifier where one is given."""
+    properties = b"\x0b" + length(subscription) if subscription else b""
+    return packet(0x82, identifier.to_bytes(2, "big") + length(len(properties)) + properties + text(share) + b"\x01")
 
 
 def unsubscribe(share, identifier=2):
@@ -94,11 +96,11 @@ def job_of(body):
     return body[2:end].decode(), int.from_bytes(body[end : end + 2], "big"), body[end + 3 + body[end + 2] :]
 
 
-def interval_of(body):
-    """Returns the Message Expiry Interval of a PUBLISH packet in which it is the first property, or None."""
+def split_properties(body):
+    """Returns the Message Expiry Interval of a PUBLISH packet in which it is the first property, or None, and the bytes of the properties behind it."""
     end = 2 + int.from_bytes(body[:2], "big")
     properties = body[end + 3 : end + 3 + body[end + 2]]
-    return int.from_bytes(properties[1:5], "big") if properties[:1] == b"\x02" else None
+    return (int.from_bytes(properties[1:5], "big"), properties[5:]) if properties[:1] == b"\x02" else (None, properties)
 
 
 def free_port():
