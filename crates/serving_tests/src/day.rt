@@ -47,17 +47,12 @@ impl<'a, R: Clock> Read for Held<'a, R> {
     }
 }
 
-/// What the clients saw of the jobs of `$share/g/job`: how many were accepted, acknowledged and refused, how many sessions surely have, how many
-/// more they may have beside those; and how many were surely discarded, and how many may have been.
+/// What the clients saw of the jobs of `$share/g/job`: how many were accepted, how many of them were acknowledged, and how many sessions have.
 #[derive(Clone, Copy)]
 pub(crate) struct Counts {
     pub(crate) accepted: u64,
     pub(crate) acknowledged: u64,
-    pub(crate) refused: u64,
     pub(crate) held: u64,
-    pub(crate) open: u64,
-    pub(crate) discarded: u64,
-    pub(crate) discardable: u64,
 }
 
 /// Where a broker listens, how many workers it has, for how many seconds it drains at most, what its clients are granted at most, the file of its users, if there is one, what it does with shares that are
@@ -232,8 +227,7 @@ fn numbers_of(alloc: Global, text: &[u8]) -> Result<Vec<u64>, Wrong> {
 }
 
 impl Night {
-    /// Whether all went well, and the report of `$share/g/job` is that of what the clients saw: each accepted job has one fate, and as many have each as can be; so have those
-    /// that were discarded, which no client sees.
+    /// Whether all went well, and the report of `$share/g/job` is that of what the clients saw: each accepted job has one fate, and none was refused or discarded.
     pub(crate) fn is_as_seen(&self, alloc: Global) -> Result<(), Wrong> {
         let saw = self.saw?;
         if self.ended.is_err() {
@@ -264,11 +258,9 @@ impl Night {
         }
         let is_as_seen = *accepted == saw.accepted
             && *acknowledged == saw.acknowledged
-            && *refused == saw.refused
-            && *discarded >= saw.discarded
-            && *discarded <= saw.discardable
-            && *held >= saw.held
-            && *held <= saw.held.saturating_add(saw.open);
+            && *refused == 0
+            && *held == saw.held
+            && *discarded == 0;
         if is_as_seen {
             Ok(())
         } else {

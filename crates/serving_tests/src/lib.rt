@@ -4,8 +4,6 @@
 #[cfg(test)]
 mod day;
 #[cfg(test)]
-mod fleet;
-#[cfg(test)]
 mod in_memory;
 #[cfg(test)]
 mod link;

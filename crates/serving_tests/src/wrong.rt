@@ -13,32 +13,15 @@ pub(crate) enum Wrong {
     Silent,
     /// The stream did not end.
     Stays,
-    /// A packet with another first byte than this.
+    /// A packet with another first byte than is to come: this.
     Packet(u8),
-    /// A CONNACK that refuses, or with the wrong Session Present.
-    Connack,
-    /// A SUBACK, or a PUBACK, with a Reason Code that may not be, or out of order.
-    Suback,
+    /// A PUBACK with a Reason Code that may not be, or none with the one that is to come.
     Puback,
-    /// A DISCONNECT with another Reason Code.
-    Told(u8),
-    /// Bytes that are none of those that are to come, or no job of this run.
+    /// Bytes that are none of those that are to come.
     Bytes,
-    /// A job without what it was published with, that has expired, is too long for its member, or has another Subscription Identifier.
-    Delivery,
-    /// A job that may not come: it was not accepted, it was settled, or another session has it.
+    /// More jobs than were published.
     Job,
-    /// A fresh job while others wait to be sent again, or under an identifier that is in use.
-    Fresh,
-    /// A job that is sent again twice, or under another identifier.
-    Again,
-    /// More unacknowledged jobs than the Receive Maximum.
-    Quota,
-    /// More jobs out of their publisher's order than dropped connections may have hidden.
-    Order,
-    /// A client, or a job, that is none of this run.
-    Place,
-    /// A job was not settled in time.
+    /// Jobs did not come in time.
     Waits,
     /// Serving failed.
     Served,

@@ -2,7 +2,6 @@
 
 use crate::in_memory::arriving::{Arriving, Client};
 use crate::in_memory::broker::{Reports, Told, serve_all};
-use crate::link::{SUBSCRIBE, publish};
 use scripted_transport::{ReadTurn, Scripted};
 use std::alloc::{AllocError, Global};
 use std::test::Fail;
@@ -19,11 +18,15 @@ const READS: usize = 32;
 const CONNECT: [u8; 27] =
     *b"\x10\x19\x00\x04MQTT\x05\x02\x00\x3C\x0A\x11\x00\x00\x0E\x10\x27\x00\x00\x00\x40\x00\x02w1";
 
-/// An UNSUBSCRIBE from `$share/g/job`.
+/// A SUBSCRIBE to `$share/g/job`, and an UNSUBSCRIBE from it.
+const SUBSCRIBE: [u8; 20] = *b"\x82\x12\x00\x01\x00\x00\x0C$share/g/job\x01";
+
 const UNSUBSCRIBE: [u8; 19] = *b"\xA2\x11\x00\x02\x00\x00\x0C$share/g/job";
 
-/// A PUBLISH to `job` of 65 bytes, but for its payload.
+/// A PUBLISH to `job` of 65 bytes, but for its payload, and one of 12 bytes.
 const LONG_PUBLISH: [u8; 10] = *b"\x32\x3F\x00\x03job\x00\x07\x00";
+
+const SHORT_PUBLISH: [u8; 12] = *b"\x32\x0A\x00\x03job\x00\x08\x00AA";
 
 /// Leaves its group, publishes long messages and a short one, joins the group again, and says nothing more for some turns.
 #[derive(Drop)]
@@ -38,7 +41,7 @@ impl Client for LongWinded {
             input.extend_from_slice(&LONG_PUBLISH)?;
             input.extend_from_slice(&[b'A'; 55])?;
         }
-        input.extend_from_slice(&publish(8, *b"AA"))?;
+        input.extend_from_slice(&SHORT_PUBLISH)?;
         input.extend_from_slice(&SUBSCRIBE)?;
         let reads = vec![in alloc; ReadTurn::AtMost(PIECE); READS]?;
         Scripted::new(alloc, input, reads, Vec::new(alloc), PIECE)

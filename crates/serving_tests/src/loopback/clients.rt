@@ -26,11 +26,7 @@ pub(crate) fn counts_of(accepted: u64, acknowledged: u64, held: u64) -> Counts {
     Counts {
         accepted,
         acknowledged,
-        refused: 0,
         held,
-        open: 0,
-        discarded: 0,
-        discardable: 0,
     }
 }
 

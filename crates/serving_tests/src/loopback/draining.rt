@@ -1,6 +1,6 @@
 //! A broker that drains once its input has ended.
 use crate::day::{Counts, Day, Listener, live};
-use crate::link::{ends, gets, next, open, say, send};
+use crate::link::{ends, gets, open, say, send, wanted};
 use crate::loopback::clients::counts_of;
 use crate::loopback::frames;
 use crate::wrong::Wrong;
@@ -92,8 +92,8 @@ fn publish_until_drained<R: Clock>(
 
 /// Whether a PUBACK that comes says that the job was accepted; else it says Quota exceeded.
 fn is_accepted(stream: &mut TcpStream, alloc: Global) -> Result<bool, Wrong> {
-    let puback = next(stream, alloc)?;
-    match puback.body.as_slice() {
+    let puback = wanted(stream, alloc, 0x40)?;
+    match puback.as_slice() {
         b"\x00\x07" => Ok(true),
         b"\x00\x07\x97" => Ok(false),
         _ => Err(Wrong::Puback),
@@ -103,8 +103,8 @@ fn is_accepted(stream: &mut TcpStream, alloc: Global) -> Result<bool, Wrong> {
 /// A member is handed so many jobs and acknowledges each; then the broker closes.
 fn take_each(stream: &mut TcpStream, alloc: Global, count: u64) -> Result<(), Wrong> {
     for _ in 0..count {
-        let job = next(stream, alloc)?;
-        let [_, _, _, _, _, high, low, _, _] = *job.body.as_slice() else {
+        let job = wanted(stream, alloc, 0x32)?;
+        let [_, _, _, _, _, high, low, _, _] = *job.as_slice() else {
             return Err(Wrong::Bytes);
         };
         send(stream, &[0x40, 2, high, low])?;
