@@ -211,3 +211,24 @@ fn faults_of_options(rt: HostRuntime) -> Result<(), Fail> {
     ];
     assert_asked(&rt, rt.alloc(), &rows)
 }
+
+#[test]
+fn how_many_sessions_are_kept(rt: HostRuntime) -> Result<(), Fail> {
+    assert_asked(
+        &rt,
+        rt.alloc(),
+        &[
+            (
+                "share_broker serve --port 1 --sessions 1",
+                "serve 127.0.0.1:1 8 Stdin 0 0 Off 1 sessions 1024 256",
+            ),
+            (
+                "share_broker serve --sessions=65536 --port 1 --keep-parked",
+                "serve 127.0.0.1:1 8 Stdin 0 0 Off 65536 sessions kept 1024 256",
+            ),
+            ("share_broker serve --port 1 --sessions 0", "2"),
+            ("share_broker serve --port 1 --sessions 65537", "2"),
+            ("share_broker drive --sessions 256", "2"),
+        ],
+    )
+}

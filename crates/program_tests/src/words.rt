@@ -43,10 +43,14 @@ fn server(alloc: Global, command: &str, setup: &Setup) -> Result<String, AllocEr
     )
 }
 
-/// What `serve` begins with: the address, the port, the workers, until when, the time to drain, the port of metrics, the level of its log, whether parked sessions are kept, whether
+/// What `serve` begins with: the address, the port, the workers, until when, the time to drain, the port of metrics, the level of its log, how many sessions are kept, whether parked ones are, whether
 /// groups are to be declared, how many connections an address may have, the longest expiry and keep alive, and the file with its users.
 fn broker(alloc: Global, service: &ServeOptions) -> Result<String, AllocError> {
     let kept = if service.keep_parked { " kept" } else { "" };
+    let sessions = match service.sessions {
+        256 => String::new(alloc),
+        most => format!(in alloc; " {most} sessions")?,
+    };
     let declared = if service.declared_groups {
         " declared"
     } else {
@@ -58,7 +62,7 @@ fn broker(alloc: Global, service: &ServeOptions) -> Result<String, AllocError> {
     };
     let limits = limited(alloc, service)?;
     let command = format!(in alloc;
-        "serve {}:{} {} {:?} {} {} {:?}{kept}{declared}{each}{limits}",
+        "serve {}:{} {} {:?} {} {} {:?}{sessions}{kept}{declared}{each}{limits}",
         service.address,
         service.port,
         service.workers,
