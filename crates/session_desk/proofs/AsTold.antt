@@ -1,5 +1,5 @@
 -- A desk keeps as many sessions as its calls tell it to, at most.
-use Rattle.std.proofs.Common.{◌≡◌, ◌≢◌, ℕ, ◌+◌, ◌<◌, ◌≤◌, Bool, true, false, cond, List, [], ◌∷◌, Option, Some, None, Result, Ok, Err, refl, sym, ap, ◌∙◌, subst, ⊎_elim, inl, inr, arith}
+use Rattle.std.proofs.Common.{◌≡◌, ℕ, ◌<◌, ◌≤◌, true, false, cond, List, [], ◌∷◌, Option, Some, None, Result, Ok, Err, refl, ap, ◌∙◌, ⊎_elim, inl, inr, arith}
 use Rattle.std.specs.List.{AllByRecursion}
 use Rattle.std.specs.FinMap as map
 use Rattle.std.proofs.Math.Nat.{min-le_left}
@@ -15,8 +15,8 @@ use Rattle.session_desk.specs.declared.row.Row.{Row}
 use Rattle.session_desk.specs.declared.row.Holder.{Holder}
 use Rattle.session_desk.specs.declared.row.Holder.TheVariants.{Lent, Parked, Kept}
 use Rattle.session_desk.specs.Rows.{Rows, HasRow, NoRow, IsKept, IsOverdue, is_living, away, new_row, with_holder, with_wait}
-use Rattle.session_desk.specs.Books.{Books, after_end, after_new}
-use Rattle.session_desk.specs.Newcomers.{HasSpace, Begins, room_for}
+use Rattle.session_desk.specs.Books.{Books}
+use Rattle.session_desk.specs.Newcomers.{HasSpace, Begins}
 use Rattle.session_desk.specs.Attaching.{Request, AttachesClient, AttachesUnnamed, attaches_by}
 use Rattle.session_desk.specs.Keeping.{EndsLent, IsLent, parked_at}
 use Rattle.session_desk.specs.Names.{assigned_name}
