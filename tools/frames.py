@@ -1,4 +1,4 @@
-"""MQTT 5.0 packets byte by byte, and a broker that is started and ended: what `tools/fleet`, `tools/ends`, `tools/refuse-memory`, `tools/spread`, `tools/attack` and `tools/fleet-of-brokers` share."""
+"""MQTT 5.0 packets byte by byte, and a broker that is started and ended: what `tools/fleet`, `tools/ends`, `tools/refuse-memory`, `tools/spread`, `tools/attack`, `tools/many` and `tools/fleet-of-brokers` share."""
 import os
 import re
 import select
