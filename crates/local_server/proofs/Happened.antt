@@ -1,5 +1,5 @@
 -- What becomes of a broker in a run of its server.
-use Rattle.std.proofs.Common.{◌≡◌, ℕ, zero, suc, Bool, true, false, List, [], ◌∷◌, ◌++◌, map, Option, Ok, Err, IsOk, Result, refl, sym, ap, subst, ◌∙◌}
+use Rattle.std.proofs.Common.{◌≡◌, ℕ, ◌≤◌, zero, suc, Bool, true, false, List, [], ◌∷◌, ◌++◌, map, Option, Ok, Err, IsOk, Result, refl, sym, ap, subst, ◌∙◌}
 use Rattle.std.specs.Result.{result_and}
 use Rattle.std.specs.List.{cons_option}
 use Rattle.std.proofs.lemmas.Bool.{false≢true}
