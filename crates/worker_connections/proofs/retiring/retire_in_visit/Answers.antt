@@ -16,7 +16,7 @@ returns-clause-retired g c =
       begins = c.begin.ensures.begun;
       mid = c.if-begin.supply;
       retires = elim c.if-begin.branch [
-        | then-begin w ↦ subst (λ (mid : Worker). Retires (is_visiting c.begin.new.self) mid) (sym w.supply-is) (subst (λ visits. Retires visits w.sweep.new.supply) (sym w.if-begin.true ∙ c.begin.ensures.told) w.sweep.ensures.swept)
+        | then-begin w ↦ subst (λ (mid : Worker). Retires (is_visiting c.begin.new.self) mid) (sym w.supply-is) (subst (λ visits. Retires visits w.retire_due.new.supply) (sym w.if-begin.true ∙ c.begin.ensures.told) w.retire_due.ensures.swept)
         | else-begin w ↦ subst (λ (mid : Worker). Retires (is_visiting c.begin.new.self) mid) (sym w.supply-is) (subst (λ visits. Retires visits c.begin.new.self) (sym w.if-begin.false ∙ c.begin.ensures.told) refl)
       ];
       leaves = c.end.ensures.left;
