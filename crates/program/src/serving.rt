@@ -22,6 +22,14 @@ use tcp_server::{ListenAt, ServeSettings, serve_at};
 use text_io::RunError;
 use users::SharedUsers;
 
+/// What is asked of a broker, what it grants a client, and its log.
+#[derive(Clone, Copy)]
+struct Serving<'s, 'l, 'g> {
+    service: &'s ServeOptions,
+    limits: &'l ClientLimits,
+    log: &'g Log,
+}
+
 /// Serves as was asked for, and writes what the log has of it. Where the file with the users gives none, it serves nobody.
 pub(crate) fn serve<
     H: Threads + Wait + Net + Clock + Files + Sync,
@@ -76,7 +84,14 @@ fn serve_limited<H: Threads + Wait + Net + Clock + Sync, R: Read + Send, W: Writ
     ensures logged { IsLoggedFor service.now.until service.now.log (E.contents errors.old) (E.contents errors.new) }
 {
     match Log::open(alloc, service.log) {
-        Ok(log) => serve_until(rt, alloc, service, limits, &log, reader, output, errors),
+        Ok(log) => {
+            let serving = Serving {
+                service,
+                limits,
+                log: &log,
+            };
+            serve_until(rt, alloc, serving, reader, output, errors)
+        }
         Err(_) => Err(RunError::Memory),
     }
 }
@@ -85,21 +100,19 @@ fn serve_limited<H: Threads + Wait + Net + Clock + Sync, R: Read + Send, W: Writ
 fn serve_until<H: Threads + Wait + Net + Clock + Sync, R: Read + Send, W: Write, E: Write + Send>(
     rt: &H,
     alloc: Global,
-    service: &ServeOptions,
-    limits: &ClientLimits,
-    log: &Log,
+    serving: Serving<'_, '_, '_>,
     reader: &mut R,
     output: &mut W,
     errors: &mut E,
 ) -> Result<(), RunError>
-    requires { log.now ≡ service.now.log }
-    ensures written { IsServedWith service.now limits.now result (W.contents output.old) (W.contents output.new) }
-    ensures read { HasRead service.now.until result (R.remaining reader.old) (R.remaining reader.new) }
-    ensures logged { IsLoggedFor service.now.until service.now.log (E.contents errors.old) (E.contents errors.new) }
+    requires { serving.log.now ≡ serving.service.now.log }
+    ensures written { IsServedWith serving.entry.service.now serving.entry.limits.now result (W.contents output.old) (W.contents output.new) }
+    ensures read { HasRead serving.entry.service.now.until result (R.remaining reader.old) (R.remaining reader.new) }
+    ensures logged { IsLoggedFor serving.entry.service.now.until serving.entry.service.now.log (E.contents errors.old) (E.contents errors.new) }
 {
-    match service.until {
-        ServeUntil::Stdin => serve_logged(rt, alloc, service, limits, log, reader, output, errors),
-        ServeUntil::Killed => serve_unread(rt, alloc, service, limits, log, output, errors),
+    match serving.service.until {
+        ServeUntil::Stdin => serve_logged(rt, alloc, serving, reader, output, errors),
+        ServeUntil::Killed => serve_unread(rt, alloc, serving, output, errors),
     }
 }
 
@@ -107,30 +120,19 @@ fn serve_until<H: Threads + Wait + Net + Clock + Sync, R: Read + Send, W: Write,
 fn serve_unread<H: Threads + Wait + Net + Clock + Sync, W: Write, E: Write + Send>(
     rt: &H,
     alloc: Global,
-    service: &ServeOptions,
-    limits: &ClientLimits,
-    log: &Log,
+    serving: Serving<'_, '_, '_>,
     output: &mut W,
     errors: &mut E,
 ) -> Result<(), RunError>
-    ensures written { IsServedWith service.now limits.now result (W.contents output.old) (W.contents output.new) }
+    ensures written { IsServedWith serving.entry.service.now serving.entry.limits.now result (W.contents output.old) (W.contents output.new) }
     ensures failed { IsErr result }
-    ensures logged { IsLoggedUnread log.now (E.contents errors.old) (E.contents errors.new) }
+    ensures logged { IsLoggedUnread serving.entry.log.now (E.contents errors.old) (E.contents errors.new) }
 {
     let mut endless = Endless { rt };
-    if log.level() == Level::Off {
-        serve_reading(rt, alloc, service, limits, log, &mut endless, output)
+    if serving.log.level() == Level::Off {
+        serve_reading(rt, alloc, serving, &mut endless, output)
     } else {
-        serve_logged(
-            rt,
-            alloc,
-            service,
-            limits,
-            log,
-            &mut endless,
-            output,
-            errors,
-        )
+        serve_logged(rt, alloc, serving, &mut endless, output, errors)
     }
 }
 
@@ -138,24 +140,22 @@ fn serve_unread<H: Threads + Wait + Net + Clock + Sync, W: Write, E: Write + Sen
 fn serve_logged<H: Threads + Wait + Net + Clock + Sync, R: Read + Send, W: Write, E: Write + Send>(
     rt: &H,
     alloc: Global,
-    service: &ServeOptions,
-    limits: &ClientLimits,
-    log: &Log,
+    serving: Serving<'_, '_, '_>,
     reader: &mut R,
     output: &mut W,
     errors: &mut E,
 ) -> Result<(), RunError>
-    ensures written { IsServedWith service.now limits.now result (W.contents output.old) (W.contents output.new) }
+    ensures written { IsServedWith serving.entry.service.now serving.entry.limits.now result (W.contents output.old) (W.contents output.new) }
     ensures read { IfOk result (λ _. IsAtEnd (R.remaining reader.new)) }
-    ensures logged { BeginsToLog log.now (E.contents errors.old) (E.contents errors.new) }
+    ensures logged { BeginsToLog serving.entry.log.now (E.contents errors.old) (E.contents errors.new) }
 {
-    if log.level() == Level::Off {
-        let ended = serve_reading(rt, alloc, service, limits, log, reader, output);
-        log.close();
-        log.run(rt, alloc, errors);
+    if serving.log.level() == Level::Off {
+        let ended = serve_reading(rt, alloc, serving, reader, output);
+        serving.log.close();
+        serving.log.run(rt, alloc, errors);
         ended
     } else {
-        serve_beside(rt, alloc, service, limits, log, reader, output, errors)
+        serve_beside(rt, alloc, serving, reader, output, errors)
     }
 }
 
@@ -163,23 +163,26 @@ fn serve_logged<H: Threads + Wait + Net + Clock + Sync, R: Read + Send, W: Write
 fn serve_beside<H: Threads + Wait + Net + Clock + Sync, R: Read + Send, W: Write, E: Write + Send>(
     rt: &H,
     alloc: Global,
-    service: &ServeOptions,
-    limits: &ClientLimits,
-    log: &Log,
+    serving: Serving<'_, '_, '_>,
     reader: &mut R,
     output: &mut W,
     errors: &mut E,
 ) -> Result<(), RunError>
-    ensures written { IsServedWith service.now limits.now result (W.contents output.old) (W.contents output.new) }
+    ensures written { IsServedWith serving.entry.service.now serving.entry.limits.now result (W.contents output.old) (W.contents output.new) }
     ensures read { IfOk result (λ _. IsAtEnd (R.remaining reader.new)) }
-    ensures logged { BeginsToLog log.now (E.contents errors.old) (E.contents errors.new) }
+    ensures logged { BeginsToLog serving.entry.log.now (E.contents errors.old) (E.contents errors.new) }
 {
+    let Serving {
+        service,
+        limits,
+        log,
+    } = serving;
     let mut logging = || log.run(rt, alloc, errors);
-    let mut serving = ||
+    let mut serve = ||
         ensures written { IsServedWith service.entry.now limits.entry.now result (W.contents output.entry.now) (W.contents output.exit.now) }
         ensures read { IfOk result (λ _. IsAtEnd (R.remaining reader.exit.now)) }
     { serve_closing(rt, alloc, service, limits, log, reader, output) };
-    let (_written, ended) = thread::join_mut(rt, &mut logging, &mut serving);
+    let (_written, ended) = thread::join_mut(rt, &mut logging, &mut serve);
     ended
 }
 
@@ -196,7 +199,12 @@ fn serve_closing<H: Threads + Wait + Net + Clock + Sync, R: Read + Send, W: Writ
     ensures written { IsServedWith service.now limits.now result (W.contents output.old) (W.contents output.new) }
     ensures read { IfOk result (λ _. IsAtEnd (R.remaining reader.new)) }
 {
-    let ended = serve_reading(rt, alloc, service, limits, log, reader, output);
+    let serving = Serving {
+        service,
+        limits,
+        log,
+    };
+    let ended = serve_reading(rt, alloc, serving, reader, output);
     log.close();
     ended
 }
@@ -205,19 +213,18 @@ fn serve_closing<H: Threads + Wait + Net + Clock + Sync, R: Read + Send, W: Writ
 fn serve_reading<H: Threads + Wait + Net + Clock + Sync, R: Read + Send, W: Write>(
     rt: &H,
     alloc: Global,
-    service: &ServeOptions,
-    limits: &ClientLimits,
-    log: &Log,
+    serving: Serving<'_, '_, '_>,
     reader: &mut R,
     output: &mut W,
 ) -> Result<(), RunError>
-    ensures written { IsServedWith service.now limits.now result (W.contents output.old) (W.contents output.new) }
+    ensures written { IsServedWith serving.entry.service.now serving.entry.limits.now result (W.contents output.old) (W.contents output.new) }
     ensures read { IfOk result (λ _. IsAtEnd (R.remaining reader.new)) }
 {
+    let service = serving.service;
     let settings = ServeSettings {
         capacity: service.capacity.get() as usize,
         workers: service.workers,
-        limits: limits.share()?,
+        limits: serving.limits.share()?,
         drain: service.drain,
         newcomers: newcomers_of(service),
         new_shares: new_shares_of(service.declared_groups),
@@ -234,7 +241,7 @@ fn serve_reading<H: Threads + Wait + Net + Clock + Sync, R: Read + Send, W: Writ
         settings,
         &service.groups,
         at,
-        log,
+        serving.log,
         reader,
         output,
     )

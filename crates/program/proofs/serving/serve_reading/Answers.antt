@@ -6,4 +6,4 @@ use Rattle.program.proofs.serving.serve_reading.Goals as goal
 pub returns-in_err-share-clause-written : goal.returns-in_err-share-clause-written
 returns-in_err-share-clause-written g c =
     let told = err_from_is_err_and c.from_residual.result c.from_residual.ensures.1 in
-    rw (told.1, told.2) (unserved c.args.service.now c.args.limits.now (g.W.Write.contents c.args.output.now))
+    rw (told.1, told.2) (unserved c.args.serving.service.now c.args.serving.limits.now (g.W.Write.contents c.args.output.now))
