@@ -1,4 +1,5 @@
 pub mod Asking
 pub mod Ending
 pub mod Hashing
+pub mod Newcomers
 pub mod Users

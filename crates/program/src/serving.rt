@@ -3,6 +3,7 @@ ghost use Rattle.std.specs.Prelude.{◌≡◌, IfOk, IsErr};
 ghost use Rattle.std.specs.Io.KnownBytes.{IsAtEnd};
 ghost use Rattle.broker_log.specs.Lines.{BeginsToLog};
 ghost use Rattle.program.specs.Ending.{HasRead, IsLoggedFor, IsLoggedUnread, IsServedFor, IsServedWith, limits_of};
+ghost use Rattle.program.specs.Newcomers.{newcomers_of};
 
 use crate::endless::Endless;
 use crate::users_file::users_for;
@@ -248,7 +249,9 @@ fn serve_reading<H: Threads + Wait + Net + Clock + Sync, R: Read + Send, W: Writ
 }
 
 /// What a broker does for a client that has no session.
-fn newcomers_of(service: &ServeOptions) -> Newcomers {
+fn newcomers_of(service: &ServeOptions) -> Newcomers
+    ensures { result ≡ newcomers_of service.now }
+{
     if service.keep_parked {
         Newcomers::IfRoom(service.sessions)
     } else {
